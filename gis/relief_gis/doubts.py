@@ -6,7 +6,6 @@ from typing import Iterator
 import numpy as np
 
 from . import cures
-from .blocks import data_ends
 from .making import edge_cells
 from .raster import Terrain
 
@@ -21,7 +20,7 @@ MANY_TIMES = 3
 
 def doubtful_heights(terrain: Terrain) -> Iterator[str]:
     """Lines on heights that often mean no data: usual numbers for it, and a rim of exact 0."""
-    ends = data_ends(terrain.values, terrain.valid)
+    ends = terrain.ends
     for number in sorted(set(ends or ())):
         if number in USUAL_NODATA:
             yield _line(terrain, number, "")

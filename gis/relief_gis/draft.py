@@ -71,7 +71,9 @@ class Draft:
         result = self.result
         assert result is not None
         self.file = GeoTiff(result.dtype, self.terrain.frame, result.nodata, result.unit,
-                            self.bands, self.metadata, styles.color_table(self.job.map))
+                            self.bands, self.metadata, styles.color_table(self.job.map),
+                            # Basins take half the time to compress, and 4 % more bytes.
+                            has_names=styles.needs_numbers(self.job.map))
 
     @property
     def needs_all(self) -> bool:
@@ -85,7 +87,7 @@ class Draft:
         for first in range(0, len(found), STRIP):
             array = self.result.rows(found[first:first + STRIP], row + first)
             self.file.put(row + first, array, band)
-            self.written = row + first + len(array)
+            self.written = max(self.written, row + first + len(array))
             if styles.needs_most(self.job.map):
                 self.most = max(self.most, float(array.max()))
             if styles.needs_numbers(self.job.map):

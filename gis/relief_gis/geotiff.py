@@ -42,12 +42,14 @@ class GeoTiff:
         descriptions: what the values are, of each band.
         metadata: texts by name.
         colors: of bytes, the colour of each value.
+        has_names: whether values name what a cell belongs to, and are no amounts.
     """
 
     def __init__(self, dtype: np.dtype, frame: Frame, nodata: Optional[float], unit: str, descriptions: Sequence[str],
-                 metadata: Mapping[str, str], colors: Optional[Mapping[int, Color]] = None) -> None:
+                 metadata: Mapping[str, str], colors: Optional[Mapping[int, Color]] = None,
+                 has_names: bool = False) -> None:
         self.memory = memory_name("tif")
-        options = [*LAYOUT, f"PREDICTOR={_predictor(dtype)}", "NUM_THREADS=ALL_CPUS"]
+        options = [*LAYOUT, f"PREDICTOR={1 if has_names else _predictor(dtype)}", "NUM_THREADS=ALL_CPUS"]
         with raised_errors():
             driver = gdal.GetDriverByName("GTiff")
             self.dataset = driver.Create(self.memory, frame.cols, frame.rows, len(descriptions), _gdal_type(dtype),

@@ -6,7 +6,7 @@ written or read. All is computed for the cells of a block at once.
 from __future__ import annotations
 
 from dataclasses import dataclass
-from typing import IO, Callable, Iterator, List, Optional, Sequence, Tuple, cast
+from typing import IO, Any, Callable, Iterator, List, Optional, Sequence, Tuple
 
 import numpy as np
 
@@ -25,6 +25,8 @@ FIRST_LETTER = b"n"
 MOST_WORD, MOST_LINE = 64, 200
 NO_NUMBERS = "relief wrote words that are no whole numbers"
 TakeRows = Callable[[np.ndarray, int], None]
+# What texts are read from: a binary file, or a part of one.
+Source = Any
 # Words of so many digits are computed with half the bytes.
 NARROW_DIGITS = 9
 
@@ -92,7 +94,7 @@ def _words(units: np.ndarray, digits: int, is_signed: bool) -> np.ndarray:
     return letters
 
 
-def read_grid(file: IO[bytes], dtype: "np.typing.DTypeLike" = np.int64, wanted: Optional[Tuple[int, ...]] = None,
+def read_grid(file: Source, dtype: "np.typing.DTypeLike" = np.int64, wanted: Optional[Tuple[int, ...]] = None,
               on_rows: Optional[TakeRows] = None, keeps: bool = True) -> np.ndarray:
     """Reads the numbers of a grid text that `relief` wrote with a scale of 0.
 
@@ -124,7 +126,7 @@ def read_grid(file: IO[bytes], dtype: "np.typing.DTypeLike" = np.int64, wanted: 
     return whole
 
 
-def _put_numbers(file: IO[bytes], rows: int, cols: int, whole: Optional[np.ndarray], dtype: "np.typing.DTypeLike",
+def _put_numbers(file: Source, rows: int, cols: int, whole: Optional[np.ndarray], dtype: "np.typing.DTypeLike",
                  on_rows: Optional[TakeRows]) -> int:
     """Puts the numbers of a text into a grid, if there is one, and gives its strips on; how many there are."""
     strip, filled, count = np.empty((0, cols), dtype), 0, 0
@@ -153,7 +155,7 @@ class Wanted:
     keeps: bool = True
 
 
-def read_grids(file: IO[bytes], wanted: Sequence[Wanted], shape: Tuple[int, ...]) -> List[np.ndarray]:
+def read_grids(file: Source, wanted: Sequence[Wanted], shape: Tuple[int, ...]) -> List[np.ndarray]:
     """Reads several grid texts, one after the other, each as `read_grid` does.
 
     Raises:
@@ -163,7 +165,7 @@ def read_grids(file: IO[bytes], wanted: Sequence[Wanted], shape: Tuple[int, ...]
         return [read_grid(file, wanted[0].dtype, shape, wanted[0].on_rows, wanted[0].keeps)]
     stream = _Texts(file)
     # A grid ends where a word of the next one's header begins.
-    found = [read_grid(cast(IO[bytes], stream), it.dtype, shape, it.on_rows, it.keeps) for it in wanted]
+    found = [read_grid(stream, it.dtype, shape, it.on_rows, it.keeps) for it in wanted]
     if stream.rest:
         raise InputError(f"relief wrote more than {len(wanted)} maps")
     return found
@@ -172,7 +174,7 @@ def read_grids(file: IO[bytes], wanted: Sequence[Wanted], shape: Tuple[int, ...]
 class _Texts:
     """Grid texts, one after the other, as files each of which ends before the next one's header."""
 
-    def __init__(self, file: IO[bytes]) -> None:
+    def __init__(self, file: Source) -> None:
         self.file = file
         self.rest = b""
 
@@ -183,16 +185,22 @@ class _Texts:
         line, end, self.rest = self.rest.partition(b"\n")
         return line + end
 
-    def read(self, count: int) -> bytes:
-        """Bytes of rows; none at their end."""
-        text = self.rest or self.file.read(count)
-        end = text.find(FIRST_LETTER)
-        end = len(text) if end < 0 else end
-        self.rest = text[end:]
-        return text[:end]
+    def readinto(self, piece: memoryview) -> int:
+        """Reads bytes of rows into a piece; how many there are, none at their end."""
+        if self.rest:
+            count = min(len(self.rest), len(piece))
+            piece[:count] = self.rest[:count]
+        else:
+            count = self.file.readinto(piece)
+        end = bytes(piece[:count]).find(FIRST_LETTER)
+        if end < 0:
+            self.rest = self.rest[count:]
+            return count
+        self.rest = self.rest[end:] or bytes(piece[end:count])
+        return end
 
 
-def _shape(file: IO[bytes]) -> Tuple[int, int]:
+def _shape(file: Source) -> Tuple[int, int]:
     """Rows and columns by the header, which is read."""
     lines = [file.readline(MOST_LINE).split() for _ in range(HEADER_LINES)]
     header = {line[0]: line[1] for line in lines if len(line) == 2}
@@ -202,21 +210,25 @@ def _shape(file: IO[bytes]) -> Tuple[int, int]:
         raise InputError("relief wrote no map: set RELIEF to the path of the relief that makes maps") from None
 
 
-def _pieces(file: IO[bytes]) -> Iterator[np.ndarray]:
+def _pieces(file: Source) -> Iterator[np.ndarray]:
     """The bytes of a text in pieces of whole words."""
-    rest = b""
+    rest = np.empty(0, np.uint8)
     while True:
-        read = file.read(PIECE)
-        text = rest + read
-        if not read:
+        text = np.empty(rest.size + PIECE, np.uint8)
+        text[:rest.size] = rest
+        count = file.readinto(text[rest.size:].data)
+        if not count:
             break
-        end = max(text.rfind(b" "), text.rfind(b"\n")) + 1
+        text = text[:rest.size + count]
+        # Behind the last whole word.
+        last = text[-MOST_WORD - 1:].tobytes()
+        end = text.size - len(last) + max(last.rfind(b" "), last.rfind(b"\n")) + 1
         rest = text[end:]
-        if len(rest) > MOST_WORD:
+        if rest.size > MOST_WORD:
             raise InputError(NO_NUMBERS)
         if end:
-            yield np.frombuffer(text, np.uint8, end)
-    if rest:
+            yield text[:end]
+    if rest.size:
         raise InputError("relief wrote a text that is cut off")
 
 

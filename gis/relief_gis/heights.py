@@ -4,7 +4,7 @@ from __future__ import annotations
 import math
 from decimal import Decimal
 from fractions import Fraction
-from typing import Callable, List, Optional, Tuple, Union
+from typing import Any, Callable, List, Optional, Tuple, Union
 
 import numpy as np
 
@@ -104,13 +104,15 @@ class Heights:
         return array_of(lambda rows: units[rows] / 10.0**self.decimals, units.shape, dtype)
 
 
-def heights_of(values: np.ndarray, valid: np.ndarray, decimals: int) -> Heights:
+def heights_of(values: np.ndarray, valid: np.ndarray, decimals: int,
+               ends: Optional[Tuple[Any, Any]] = None) -> Heights:
     """Heights in units, rounded to the nearest where they have more decimals, halves to even, by their exact values.
 
     Args:
         values: (rows, cols), integers or floats.
         valid: (rows, cols) bool, where there is data; NaN is never data.
         decimals: 0 to 6.
+        ends: the least and the greatest value where there is data, if they are known.
 
     Raises:
         InputError: a shape, type or number of decimals that has no map, or a height that is infinite or past
@@ -119,11 +121,12 @@ def heights_of(values: np.ndarray, valid: np.ndarray, decimals: int) -> Heights:
     check_shape(values.shape)
     if not 0 <= decimals <= MOST_DECIMALS:
         raise InputError(f"{decimals} decimals are not 0 to {MOST_DECIMALS}")
-    if values.dtype.kind in "iu":
-        return _from_integers(values, valid, decimals)
+    if values.dtype.kind not in "iuf":
+        raise InputError(f"heights of type {values.dtype} are neither integers nor floats")
+    ends = ends or data_ends(values, valid) or (0, 0)
     if values.dtype.kind == "f":
-        return _from_floats(values, valid, decimals)
-    raise InputError(f"heights of type {values.dtype} are neither integers nor floats")
+        return _from_floats(values, valid, decimals, ends)
+    return _from_integers(values, valid, decimals, int(ends[0]), int(ends[1]))
 
 
 def check_shape(shape: tuple) -> None:
@@ -139,9 +142,8 @@ def unit_type(most: Union[float, Fraction]) -> np.dtype:
     return np.dtype(np.int32 if most < MOST_NARROW else np.int64)
 
 
-def _from_integers(values: np.ndarray, valid: np.ndarray, decimals: int) -> Heights:
+def _from_integers(values: np.ndarray, valid: np.ndarray, decimals: int, low: int, high: int) -> Heights:
     factor = 10**decimals
-    low, high = _ends(values, valid)
     most = max(abs(low), abs(high)) * factor
     _check_size(most)
     dtype = unit_type(most)
@@ -153,15 +155,9 @@ def _from_integers(values: np.ndarray, valid: np.ndarray, decimals: int) -> Heig
     return Heights(valid, decimals, (low * factor, high * factor), dtype, convert)
 
 
-def _ends(values: np.ndarray, valid: np.ndarray) -> Tuple[int, int]:
-    """The least and the greatest of integers where there is data, or 0 and 0."""
-    low, high = data_ends(values, valid) or (0, 0)
-    return int(low), int(high)
-
-
-def _from_floats(values: np.ndarray, valid: np.ndarray, decimals: int) -> Heights:
+def _from_floats(values: np.ndarray, valid: np.ndarray, decimals: int, ends: Tuple[Any, Any]) -> Heights:
     factor = 10**decimals
-    low, high = data_ends(values, valid) or (0.0, 0.0)
+    low, high = ends
     if np.isnan(low):
         # So is the least one where one is.
         valid = valid & ~np.isnan(values)
@@ -179,8 +175,8 @@ def _from_floats(values: np.ndarray, valid: np.ndarray, decimals: int) -> Height
         # A float32 that is the nearest to a decimal stands for it, and nothing is rounded.
         return float(max(rest.max(), -rest.min())), np.array_equal((found / factor).astype(values.dtype), part)
 
-    ends, _ = round_floats(np.array([low, high], values.dtype), factor)
-    return Heights(valid, decimals, (int(ends[0]), int(ends[1])), dtype, convert)
+    (least, most), _ = round_floats(np.array([low, high], values.dtype), factor)
+    return Heights(valid, decimals, (int(least), int(most)), dtype, convert)
 
 
 def _check_size(most: Union[float, Fraction]) -> None:
@@ -207,7 +203,7 @@ def scaled_integers(values: np.ndarray, valid: np.ndarray, scale: float, offset:
         InputError: a height is past 10^15 units.
     """
     factor, shift = (Fraction(Decimal(repr(number))) * 10**decimals for number in (scale, offset))
-    low, high = _ends(values, valid)
+    low, high = map(int, data_ends(values, valid) or (0, 0))
     most = max(abs(factor * low + shift), abs(factor * high + shift))
     _check_size(most)
     known = np.where(valid, values, values.dtype.type(low))

@@ -92,7 +92,7 @@ def heights_in_units(terrain: Terrain, decimals: Optional[int]) -> Heights:
     if (terrain.scale, terrain.offset) != (1.0, 0.0):
         return _scaled(terrain, decimals)
     kept = default_decimals(terrain.values.dtype) if decimals is None else decimals
-    return heights_of(terrain.values, terrain.valid, kept)
+    return heights_of(terrain.values, terrain.valid, kept, terrain.ends)
 
 
 def tell_rounding(rounding: Decimal, decimals: int, say: Say) -> None:

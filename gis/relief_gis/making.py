@@ -1,13 +1,14 @@
 """The maps: what `relief` is asked for, and of which numpy type its answer is."""
 from __future__ import annotations
 
+from concurrent.futures import ThreadPoolExecutor
 from dataclasses import dataclass, replace
 from typing import List, Optional, Sequence, Tuple
 
 import numpy as np
 
 from .blocks import array_of
-from .grid_text import TakeRows, Wanted
+from .grid_text import STRIP, TakeRows, Wanted
 from .heights import Heights
 from .program import Program, Question, Report
 from .units import MOST_RADIUS_CELLS
@@ -93,8 +94,8 @@ def make(request: Request, heights: Heights, program: Program, on_progress: Opti
     """Makes a map with the program, which reports its progress and is cancelled as in `Program.run`.
 
     Args:
-        on_rows: called on another thread with strips of the map, as the program writes them, and their first rows; where
-            it gets a part of the heights, once with the whole map.
+        on_rows: called with strips of the map, as the program writes them, and their first rows, on another thread and
+            in their order; where it gets a part of the heights, first with those that are out of reach.
         keeps: whether a map that goes to `on_rows` is kept; else what is returned has no rows.
 
     Returns:
@@ -113,13 +114,30 @@ def make(request: Request, heights: Heights, program: Program, on_progress: Opti
                   for place in request.places]
         found = array_of(lambda rows: np.where(heights.valid[rows], np.int32(0), np.int32(NODATA_COUNT)),
                          heights.shape, np.int32)
-        found[part] = make(replace(request, places=places), heights.part(part), program, on_progress, is_cancelled,
-                           by_percent)
-        if on_rows is not None:
-            on_rows(found, 0)
+        beyond, within = _strips(heights.shape[0], part[0])
+        with ThreadPoolExecutor(1) as pool:
+            # What lies out of reach need not wait for the program.
+            giving = pool.submit(_give, found, beyond, on_rows)
+            found[part] = make(replace(request, places=places), heights.part(part), program, on_progress, is_cancelled,
+                               by_percent)
+            giving.result()
+        _give(found, within, on_rows)
         return found if keeps else found[:0]
     return make_together(request, heights, program, [Use(request.map, on_rows, keeps)], on_progress, is_cancelled,
                          by_percent)[0]
+
+
+def _strips(rows: int, reached: slice) -> Tuple[List[slice], List[slice]]:
+    """The strips of a map that hold none of some rows, and those that do."""
+    strips = [slice(first, min(first + STRIP, rows)) for first in range(0, rows, STRIP)]
+    within = [strip for strip in strips if strip.start < reached.stop and reached.start < strip.stop]
+    return [strip for strip in strips if strip not in within], within
+
+
+def _give(found: np.ndarray, strips: Sequence[slice], on_rows: Optional[TakeRows]) -> None:
+    """Gives strips of a map on."""
+    for strip in strips if on_rows is not None else ():
+        on_rows(found[strip], strip.start)
 
 
 @dataclass(frozen=True)

@@ -6,13 +6,14 @@ import os
 from concurrent.futures import ThreadPoolExecutor
 from dataclasses import dataclass
 from fractions import Fraction
-from typing import Optional, Sequence, Tuple, cast
+from functools import cached_property
+from typing import Any, Optional, Sequence, Tuple, cast
 
 import numpy as np
 from osgeo import gdal, osr
 
 from . import cures
-from .blocks import THREADS, for_rows, row_blocks
+from .blocks import THREADS, data_ends, for_rows, row_blocks
 from .errors import DeviceError, InputError, UsageError
 from .frame import Bounds, Frame, Geotransform, Window, reference_of
 from .gdal_errors import raised_errors
@@ -50,6 +51,11 @@ class Terrain:
     frame: Frame
     source: cures.Source
     is_part: bool = False
+
+    @cached_property
+    def ends(self) -> Optional[Tuple[Any, Any]]:
+        """The least and the greatest value where there is data; None: there is none."""
+        return data_ends(self.values, self.valid)
 
 
 @dataclass(frozen=True)
