@@ -37,7 +37,7 @@ def uncertain_cells(codes: np.ndarray, valid: np.ndarray) -> np.ndarray:
     """
     # Each cell is met once, so a walk takes less time than numpy's rounds over all cells.
     found = bytearray(codes.size)
-    offsets = _offsets(codes.shape[1])
+    offsets = offsets_of(codes.shape[1])
     flat = memoryview(np.ascontiguousarray(codes)).cast("B")
     for cell in _places(edge_cells(valid)):
         while not found[cell]:
@@ -52,7 +52,7 @@ def _places(cells: np.ndarray) -> Iterator[int]:
         yield from (np.flatnonzero(cells[rows]) + rows.start * cells.shape[1]).tolist()
 
 
-def _offsets(cols: int) -> List[int]:
+def offsets_of(cols: int) -> List[int]:
     """How many places further, in row order, each code leads; 0 where a flow path ends."""
     offsets = [0] * 256
     for code, (down, right) in STEPS.items():

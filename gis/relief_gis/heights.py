@@ -84,6 +84,10 @@ class Heights:
         """The heights of some rows and columns."""
         return Heights.of_units(self.rows(cut[0])[:, cut[1]], self.valid[cut], self.decimals)
 
+    def drop_units(self) -> None:
+        """Frees the units, where nobody asks for them again."""
+        self._units, self._convert = np.empty((0, 0), self.dtype), None
+
     def _work_out(self, rows: slice) -> None:
         """Works out the units of rows. Blocks that two threads ask for may be worked out twice, to the same units."""
         step = self._blocks[0].stop

@@ -72,10 +72,11 @@ def checked(terrain: Terrain, job: Job, say: Say) -> Terrain:
 
 
 def _filled(terrain: Terrain, holes: Holes, found: str, say: Say) -> Terrain:
-    values = fill_holes(terrain.values, terrain.valid, holes.cells, holes.longest_side + 1)
+    cells = holes.cells
+    fill_holes(terrain.values, terrain.valid, cells, holes.longest_side + 1)
     say(f"{found}, interpolated; {int(np.count_nonzero(~terrain.valid)) - holes.cell_count:,} cells that reach the "
         "border stay without data")
-    return replace(terrain, values=values, valid=terrain.valid | holes.cells)
+    return replace(terrain, valid=terrain.valid | cells)
 
 
 def heights_in_units(terrain: Terrain, decimals: Optional[int]) -> Heights:

@@ -341,25 +341,27 @@ def _signed(band: gdal.Band, values: np.ndarray) -> np.ndarray:
     return values.astype(np.int16) if values.dtype == np.int8 else values
 
 
-def fill_holes(values: np.ndarray, valid: np.ndarray, holes: np.ndarray, reach: int) -> np.ndarray:
-    """Heights with the cells of holes interpolated from the data around them, by GDAL; others as they are.
+def fill_holes(values: np.ndarray, valid: np.ndarray, holes: np.ndarray, reach: int) -> None:
+    """Interpolates the cells of holes from the data around them, by GDAL; other cells stay as they are.
 
     Args:
-        values: (rows, cols) integers or floats.
+        values: (rows, cols) integers or floats, which are changed.
         valid, holes: (rows, cols) bool.
         reach: how far GDAL looks for data, in cells: further than the holes are wide.
     """
     rows, cols = values.shape
-    found = values.copy()
+    # GDAL has a copy of the heights: of 32 bits where these have all of them.
+    is_narrow = values.dtype == np.float32 or values.dtype.itemsize < 4
     with raised_errors():
         memory = gdal.GetDriverByName("MEM")
-        heights, mask = (memory.Create("", cols, rows, 1, kind) for kind in (gdal.GDT_Float64, gdal.GDT_Byte))
+        heights, mask = (memory.Create("", cols, rows, 1, kind)
+                         for kind in (gdal.GDT_Float32 if is_narrow else gdal.GDT_Float64, gdal.GDT_Byte))
         for part in row_blocks(values.shape):
-            heights.WriteArray(np.where(valid[part], values[part], 0).astype(np.float64), 0, part.start)
+            known = np.where(valid[part], values[part], 0).astype(np.float32 if is_narrow else np.float64)
+            heights.WriteArray(known, 0, part.start)
             mask.WriteArray(valid[part].astype(np.uint8), 0, part.start)
         gdal.FillNodata(heights.GetRasterBand(1), mask.GetRasterBand(1), reach, 0)
         for part in row_blocks(values.shape):
             filled = heights.ReadAsArray(0, part.start, cols, part.stop - part.start)
             filled = np.rint(filled) if values.dtype.kind in "iu" else filled
-            found[part][holes[part]] = filled[holes[part]].astype(values.dtype)
-    return found
+            values[part][holes[part]] = filled[holes[part]].astype(values.dtype)

@@ -46,6 +46,8 @@ def run_together(terrain: Terrain, heights: Heights, jobs: Sequence[Job], progra
         run = _Run(drafts, requests, terrain, heights, program, caller)
         found = run.made()
         ahead.finish()
+        if not run.needs_units(found):
+            heights.drop_units()
         for draft in drafts:
             run.end(draft, found, gauges)
         caller.check()
@@ -85,6 +87,11 @@ class _Run:
         """Whether what is told or written of a job takes directions."""
         is_told = self.terrain.is_part and job.map in edges.TOLD_MAPS
         return is_told or any((job.uncertain, job.polygons, job.lines))
+
+    def needs_units(self, found: Dict[str, np.ndarray]) -> bool:
+        """Whether heights are needed when the maps of the program are there."""
+        return any(draft.needs_all or draft.job.map == "depth" or draft.job.polygons is not None
+                   or (self.has_more(draft.job) and "flow" not in found) for draft in self.drafts)
 
     def made(self) -> Dict[str, np.ndarray]:
         """What the program wrote for its maps, by their names, where it has to be kept."""
