@@ -32,7 +32,7 @@ NARROW_DIGITS = 9
 
 
 def _table(count: int, first: bytes, last: bytes) -> np.ndarray:
-    """Words of four bytes as numbers of 32 bits: a first letter or none, so many numbers from 0, a last letter or none."""
+    """Words of four bytes as numbers of 32 bits: a letter or none, each of so many numbers from 0, a letter or none."""
     width = 4 - len(first) - len(last)
     words = np.empty((count, 4), np.uint8)
     words[:, :len(first)], words[:, 4 - len(last):] = list(first), list(last)

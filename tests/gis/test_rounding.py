@@ -1,6 +1,7 @@
 """Heights are rounded to the nearest unit, halves to even, by their exact values, and the greatest rounding is told."""
 import re
 import unittest
+from concurrent.futures import ThreadPoolExecutor
 from decimal import ROUND_HALF_EVEN, Decimal
 from fractions import Fraction
 
@@ -64,6 +65,30 @@ class Floats(unittest.TestCase):
         found = heights_of(values, valid, 2)
         right = {number / 200: units_of(Fraction(number / 200) * 100) for number in range(4000)}
         np.testing.assert_array_equal(found.units[valid], [right[float(value)] for value in values[valid]])
+
+
+class Rows(unittest.TestCase):
+    """Rows are rounded when they are asked for, in any order and by several threads, to the same units."""
+
+    def test_any_order(self):
+        random = np.random.default_rng(6)
+        for dtype in (np.float32, np.float64, np.int16):
+            values = (random.integers(-4000, 4000, (200, 1000)) / (1 if dtype == np.int16 else 300)).astype(dtype)
+            valid = random.random(values.shape) < 0.9
+            whole = heights_of(values, valid, 2)
+            units, rounding = whole.units, whole.rounding
+            self.assertEqual(whole.ends, (units[valid].min(), units[valid].max()))
+            lazy = heights_of(values, valid, 2)
+            starts = random.integers(0, 199, 60).tolist()
+            with ThreadPoolExecutor(4) as pool:
+                parts = list(pool.map(lambda first: lazy.rows(slice(first, first + 7)).copy(), starts))
+            for first, part in zip(starts, parts):
+                np.testing.assert_array_equal(part, units[first:first + 7])
+            part = heights_of(values, valid, 2).part((slice(20, 90), slice(3, 500)))
+            np.testing.assert_array_equal(part.units, units[20:90, 3:500])
+            self.assertEqual(lazy.rounding, rounding)
+            np.testing.assert_array_equal(lazy.units, units)
+            self.assertEqual(lazy.shape, (200, 1000))
 
 
 class Integers(unittest.TestCase):
