@@ -15,7 +15,7 @@ Result = TypeVar("Result")
 CELLS = 1 << 15
 MOST_THREADS = 8
 # How many calls of `Behind` wait at most.
-MOST_BEHIND = 2
+MOST_BEHIND = 1
 THREADS = min(len(os.sched_getaffinity(0)) if hasattr(os, "sched_getaffinity") else os.cpu_count() or 1, MOST_THREADS)
 
 
