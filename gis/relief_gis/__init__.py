@@ -8,7 +8,7 @@ from typing import TYPE_CHECKING, Any, List
 
 if TYPE_CHECKING:
     from .arrays import (Differences, Maps, Sight, Visibility, accumulate, area, basins, catchments, compare, depth,
-                         fill, flow, maps, profile, streams, uncertain, view, view_each, visibility)
+                         fill, flow, maps, profile, rise, streams, uncertain, view, view_each, visibility)
     from .errors import Cancelled, DeviceError, GisError, InputError, MissingError, ReliefError, UsageError
     from .making import NODATA_CODE, NODATA_COUNT
     from .program import Program
@@ -16,9 +16,9 @@ if TYPE_CHECKING:
 
 __version__ = "0.2.0"
 __all__ = [
-    "accumulate", "area", "basins", "catchments", "compare", "depth", "fill", "flow", "maps", "profile", "streams",
-    "uncertain", "view", "view_each", "visibility", "Differences", "Maps", "NODATA_CODE", "NODATA_COUNT", "Profile",
-    "Program", "Sight", "Visibility",
+    "accumulate", "area", "basins", "catchments", "compare", "depth", "fill", "flow", "maps", "profile", "rise",
+    "streams", "uncertain", "view", "view_each", "visibility", "Differences", "Maps", "NODATA_CODE", "NODATA_COUNT",
+    "Profile", "Program", "Sight", "Visibility",
     "Cancelled", "DeviceError", "GisError", "InputError", "MissingError", "ReliefError", "UsageError",
 ]
 # The modules of names that are none of `arrays`. A name is imported when it is first asked for: the command needs few.

@@ -32,7 +32,8 @@ from .errors import InputError, UsageError
 from .foreign import CODES
 from .given import Given, given_of, other_map_of
 from .heights import MOST_SIDE, Heights
-from .making import NODATA_CODE, NODATA_COUNT, SOURCES, Place, Request, Use, make, make_together
+from .making import (NODATA_CODE, NODATA_COUNT, SOURCES, Place, Request, Use, join_seen, make, make_together,
+                     unseen)
 from .program import Program
 from .sightline import Profile, profile_of
 from .small_basins import without_small
@@ -161,6 +162,32 @@ def view(heights: Any, observers: Sequence[Observer], nodata: Optional[float] = 
         given = given_of(heights, nodata, scale)
         request, drop = _view_request(given, observers, target, radius, workers, cell, curvature, refraction, earth)
         return given.counted(_seen(request, given.heights, drop, program or Program.find()), "view")
+
+
+def rise(heights: Any, observers: Sequence[Observer], nodata: Optional[float] = None, scale: Optional[int] = None, *,
+         radius: Optional[int] = None, cell: Optional[Number] = None, curvature: bool = False,
+         refraction: Number = REFRACTION, earth: Number = EARTH, workers: int = 1,
+         program: Optional[Program] = None) -> Map:
+    """The least height above each cell's ground at which one of the observers sees a target.
+
+    Args:
+        as in `view`.
+
+    Returns:
+        (rows, cols) in the unit of `heights`, from 0 to 1,000,000 units: int64 if they are integers and `scale` is 0,
+        else float64; NODATA_COUNT (-9999) where nobody sees a target, however high, and where there is no data.
+
+    Raises:
+        MissingError: `relief` is not installed, or its version has no rise.
+        UsageError, InputError, ReliefError: as in `view`.
+    """
+    with spoken_in(PYTHON):
+        given = given_of(heights, nodata, scale)
+        request, drop = _view_request(given, observers, 0, radius, workers, cell, curvature, refraction, earth)
+        found = _seen(replace(request, map="rise"), given.heights, drop, program or Program.find())
+        dtype = np.dtype(np.int64 if given.is_whole else np.float64)
+        risen = np.where(found == NODATA_COUNT, dtype.type(NODATA_COUNT), given.heights.values(found, dtype))
+        return given.counted(risen, "rise")
 
 
 def view_each(heights: Any, observers: Sequence[Observer], nodata: Optional[float] = None, scale: Optional[int] = None,
@@ -524,12 +551,12 @@ def _view_request(given: Given, observers: Sequence[Observer], target: Any, radi
 
 
 def _seen(request: Request, heights: Heights, drop: Optional[Fraction], program: Program) -> np.ndarray:
-    """How many of the observers of a request see each cell, each on ground that drops away from it."""
+    """What the observers of a request see, each on ground that drops away from it."""
     if drop is None:
         return make(request, heights, program)
-    found = np.where(heights.valid, np.int32(0), np.int32(NODATA_COUNT))
+    found = unseen(request.map, heights.valid)
     for _, seen in _seen_by_each(request, heights, drop, program):
-        np.add(found, seen, out=found, where=heights.valid)
+        join_seen(request.map, found, seen)
     return found
 
 

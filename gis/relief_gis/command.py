@@ -15,6 +15,7 @@ from .curvature import REFRACTION
 from .edges import UNCERTAIN_MAPS
 from .errors import GisError, UsageError
 from .job import Caller, Job, run_all
+from .making import SIGHT
 from .parser import TOGETHER, new_parser
 from .points import Layer, Point, point_of_word
 from .program import Program
@@ -47,7 +48,7 @@ def _job(words: Sequence[str], asked: argparse.Namespace) -> Job:
         sinks=[*sinks, *map(Layer, getattr(asked, "sinks", []))],
         eye=eye, above=Decimal(0) if above is None else above, radius=radius, each=getattr(asked, "each", False),
         visibility=getattr(asked, "visibility", None), curvature=getattr(asked, "curvature", False),
-        refraction=_refraction(asked) if asked.map == "view" else REFRACTION,
+        refraction=_refraction(asked) if asked.map in SIGHT else REFRACTION,
         threshold=getattr(asked, "threshold", None), lines=getattr(asked, "lines", None),
         least=getattr(asked, "least", None), snap=snap, snapped=snapped,
         polygons=getattr(asked, "polygons", None), uncertain=getattr(asked, "uncertain", None),

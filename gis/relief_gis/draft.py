@@ -24,6 +24,7 @@ DESCRIPTIONS = {
     "fill": "filled height", "flow": "D8 direction: E 1, SE 2, S 4, SW 8, W 16, NW 32, N 64, NE 128, outlet 0",
     "accumulate": "number of other cells that drain through the cell", "basins": "number of the outlet",
     "catchments": "number of the gauge, 0 none", "view": "number of observers that see the cell",
+    "rise": "least height above the ground at which a target is seen",
     "depth": "filled height less height", "area": "area that drains through the cell, its own with it",
     "streams": "1: a stream",
 }

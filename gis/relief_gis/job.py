@@ -17,7 +17,7 @@ from .errors import Cancelled, UsageError
 from .frame import Bounds, Window
 from .heights import Heights
 from .lands import checked, heights_in_units, tell_rounding, tell_units
-from .making import Request, TakeRows, Use, make, make_together
+from .making import SIGHT, Request, TakeRows, Use, make, make_together
 from .measures import in_units_of
 from .points import Layer, Point, Source
 from .program import Program, Question, Report
@@ -40,7 +40,7 @@ class Job:
         map: a key of `draft.DESCRIPTIONS`.
         source: the raster of heights; target: the GeoTIFF to be written.
         around: a place of which the catchment is read, and no more of the raster than it takes; None: all is.
-        places: sinks; of `catchments` gauges; of `view` observers.
+        places: sinks; of `catchments` gauges; of `view` and `rise` observers.
         sinks: sinks of `catchments`.
         decimals: of heights; None: by the raster's type.
         voids: refuse, drain or fill, what holes inside the land are.
@@ -149,7 +149,7 @@ def run_all(jobs: Sequence[Job], program: Program, caller: Caller) -> None:
     raster = open_raster(job.source, job.band, job.window, job.bounds, job.projection, job.needs_projection)
     jobs = [in_units_of(raster.frame, it) for it in jobs]
     job = chief_of(jobs)
-    if job.map == "view":
+    if job.map in SIGHT:
         # Other maps have no need of these modules.
         from .views import is_by_parts, run_by_parts
 
@@ -186,6 +186,8 @@ def _check_jobs(jobs: Sequence[Job], program: Program) -> None:
     """Refuses, before anything is read, what this version lacks, missing places, and targets that cannot be."""
     if any(job.map == "catchments" or job.around is not None for job in jobs):
         program.require("catchments")
+    if jobs[0].map == "rise":
+        program.require("rise")
     if len(sources_of(jobs)) > 1:
         program.require("maps")
     for job in jobs:

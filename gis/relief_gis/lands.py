@@ -14,6 +14,7 @@ from .doubts import doubtful_heights
 from .errors import InputError
 from .frame import Frame
 from .heights import Heights, default_decimals, heights_of, scaled_decimals, scaled_integers
+from .making import SIGHT
 from .raster import Terrain, fill_holes
 from .units import MOST_DECIMALS, rounded_up
 from .voids import Holes, find_holes
@@ -29,7 +30,7 @@ def tell_units(frame: Frame, unit: str, job: Job, say: Say) -> None:
     has_radius = job.radius is not None or any(getattr(place, "radius", None) is not None for place in job.places)
     if has_radius or job.map == "area":
         tell_unit_of_lengths(frame, say)
-    if job.map == "view":
+    if job.map in SIGHT:
         tell_unit_of_heights(unit, say)
 
 
@@ -63,7 +64,7 @@ def checked(terrain: Terrain, job: Job, say: Say) -> Terrain:
     found = (f"voids: {holes.cell_count:,} cells in {holes.count:,} {'hole' if holes.count == 1 else 'holes'} "
              "inside the land")
     if job.voids == "refuse":
-        drained = "leaves them, and they block no view" if job.map == "view" else "lets water out"
+        drained = "leaves them, and they block no view" if job.map in SIGHT else "lets water out"
         raise InputError(f"{found}: --voids fill interpolates, --voids drain {drained}")
     if job.voids == "drain":
         say(f"{found}, left as they are")

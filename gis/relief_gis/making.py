@@ -7,7 +7,7 @@ from typing import List, Optional, Sequence, Tuple
 
 import numpy as np
 
-from .blocks import array_of
+from .blocks import array_of, row_blocks
 from .grid_text import STRIP, TakeRows, Wanted
 from .heights import Heights
 from .program import Program, Question, Report
@@ -17,8 +17,10 @@ from .voids import any_of_nine
 NODATA_CODE = 255
 NODATA_COUNT = -9999
 DRAINAGE = ("fill", "flow", "accumulate", "basins", "catchments")
+# The maps of observers: how many see each cell, and the least target height at which one does.
+SIGHT = ("view", "rise")
 # The map of the program from which each map comes.
-SOURCES = {**{name: name for name in (*DRAINAGE, "view")}, "depth": "fill", "area": "accumulate",
+SOURCES = {**{name: name for name in (*DRAINAGE, *SIGHT)}, "depth": "fill", "area": "accumulate",
            "streams": "accumulate"}
 
 
@@ -43,12 +45,12 @@ class Request:
     """One run of the program.
 
     Attributes:
-        map: fill, flow, accumulate, basins, catchments or view; or maps, for several by one run.
-        places: sinks; of `catchments` and `maps` gauges; of `view` observers.
+        map: fill, flow, accumulate, basins, catchments, view or rise; or maps, for several by one run.
+        places: sinks; of `catchments` and `maps` gauges; of `view` and `rise` observers.
         sinks: sinks of `catchments` and `maps`.
         maps: those of `maps`, of DRAINAGE, in their order.
         target: height of the targets of `view`, in units.
-        radius: how far is seen in `view`, in cells; None: over the whole grid.
+        radius: how far is seen in `view` and `rise`, in cells; None: over the whole grid.
         workers: threads, 1 to 64.
         tile: side of the tiles in cells; None: the program's own.
     """
@@ -69,7 +71,8 @@ class Request:
             words += ["--tile", str(self.tile)]
         if self.map == "view":
             words += ["--target", str(self.target)]
-            words += ["--radius", str(self.radius)] if self.radius is not None else []
+        if self.map in SIGHT and self.radius is not None:
+            words += ["--radius", str(self.radius)]
         for sink in self.sinks:
             words += ["--sink", sink.word]
         if self.map == "maps":
@@ -78,14 +81,42 @@ class Request:
 
 
 def _reach(request: Request, shape: Tuple[int, ...]) -> Optional[Tuple[slice, slice]]:
-    """Rows and columns that hold all that the observers of `view` can see; None: all, or the program will refuse."""
+    """Rows and columns that hold all that observers can see; None: all, or the program will refuse."""
     places, radius = request.places, request.radius
     is_refused = not all(0 <= place.row < shape[0] and 0 <= place.col < shape[1] for place in places)
-    if request.map != "view" or radius is None or not 1 <= radius <= MOST_RADIUS_CELLS or not places or is_refused:
+    if request.map not in SIGHT or radius is None or not 1 <= radius <= MOST_RADIUS_CELLS or not places or is_refused:
         return None
     ends = [(min(cells), max(cells)) for cells in zip(*((place.row, place.col) for place in places))]
     rows, cols = (slice(max(low - radius, 0), min(high + radius + 1, side)) for (low, high), side in zip(ends, shape))
     return rows, cols
+
+
+def unseen(name: str, valid: np.ndarray) -> np.ndarray:
+    """A map of observers where nobody sees anything.
+
+    Args:
+        valid: (rows, cols) bool, where there is data.
+    """
+    value = np.int32(0 if name == "view" else NODATA_COUNT)
+    return array_of(lambda rows: np.where(valid[rows], value, np.int32(NODATA_COUNT)), valid.shape, np.int32)
+
+
+def join_seen(name: str, seen: np.ndarray, more: np.ndarray) -> None:
+    """Adds to a map of observers what further ones see: counts add up, and of heights the least counts.
+
+    Args:
+        seen, more: (rows, cols) int32, NODATA_COUNT where there is no value, of which the other one has the value then.
+    """
+    for rows in row_blocks(seen.shape):
+        ours, theirs = seen[rows], more[rows]
+        is_known = theirs != NODATA_COUNT
+        is_first = is_known & (ours == NODATA_COUNT)
+        if name == "view":
+            ours[is_first] = 0
+            np.add(ours, theirs, out=ours, where=is_known)
+        else:
+            np.minimum(ours, theirs, out=ours, where=is_known)
+            ours[is_first] = theirs[is_first]
 
 
 def make(request: Request, heights: Heights, program: Program, on_progress: Optional[Report] = None,
@@ -105,15 +136,14 @@ def make(request: Request, heights: Heights, program: Program, on_progress: Opti
     Raises:
         MissingError, ReliefError, DeviceError, Cancelled.
     """
-    if request.map == "catchments":
-        program.require("catchments")
+    if request.map in ("catchments", "rise"):
+        program.require(request.map)
     part = _reach(request, heights.shape)
     if part is not None and heights.valid[part].size < heights.valid.size:
         # Lines of sight lie between their ends, and farther off nothing is seen.
         places = [replace(place, row=place.row - part[0].start, col=place.col - part[1].start)
                   for place in request.places]
-        found = array_of(lambda rows: np.where(heights.valid[rows], np.int32(0), np.int32(NODATA_COUNT)),
-                         heights.shape, np.int32)
+        found = unseen(request.map, heights.valid)
         beyond, within = _strips(heights.shape[0], part[0])
         with ThreadPoolExecutor(1) as pool:
             # What lies out of reach need not wait for the program.

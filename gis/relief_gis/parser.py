@@ -15,6 +15,7 @@ from .edges import UNCERTAIN_MAPS
 from .errors import UsageError
 from .foreign import CODES
 from .job import VOIDS, bounds_of
+from .making import SIGHT
 from .units import AREAS, MOST_DECIMALS, Measure, decimal_of, measure_of
 
 ABOUT = {
@@ -24,6 +25,7 @@ ABOUT = {
     "basins": "the number of the outlet to which each cell drains",
     "catchments": "which of the gauges each cell drains to first",
     "view": "how many of the observers see each cell",
+    "rise": "the least height above each cell's ground at which one of the observers sees a target",
     "depth": "how deep each cell lies below its filled height",
     "area": "the area that drains through each cell, in square units of the projection",
     "streams": "1 where more than so many cells drain through a cell, else 0",
@@ -35,7 +37,7 @@ TASKS = {
     "profile": "the ground under a line of sight, what blocks it, and the least eye and target that clear it",
 }
 # The maps that one run makes.
-TOGETHER = tuple(name for name in ABOUT if name != "view")
+TOGETHER = tuple(name for name in ABOUT if name not in SIGHT)
 EPILOG = """\
 IN is any raster that GDAL opens, OUT a GeoTIFF, NAME.tif. Heights, eyes and targets are in the unit of the raster's
 heights, radius and coordinates in the unit of its projection: usually metres.
@@ -83,7 +85,7 @@ def new_parser() -> argparse.ArgumentParser:
                               formatter_class=argparse.RawDescriptionHelpFormatter)
         _add_common(one)
         _add_places(one, name)
-        if name != "view":
+        if name not in SIGHT:
             _add_around(one)
         if name in UNCERTAIN_MAPS:
             _add_uncertain(one)
@@ -170,7 +172,7 @@ def _add_making(parser: argparse.ArgumentParser) -> None:
 
 
 def _add_places(parser: argparse.ArgumentParser, name: str) -> None:
-    kind = {"view": "observer", "catchments": "gauge"}.get(name, "sink")
+    kind = "observer" if name in SIGHT else {"catchments": "gauge"}.get(name, "sink")
     parser.add_argument("--at", action="append", default=[], metavar="X,Y",
                         help=f"{'an' if kind == 'observer' else 'a'} {kind}, by coordinates; again and again")
     parser.add_argument("--points", action="append", default=[], metavar="LAYER",
@@ -181,20 +183,31 @@ def _add_places(parser: argparse.ArgumentParser, name: str) -> None:
 
 def _add_view(parser: argparse.ArgumentParser) -> None:
     add = parser.add_argument
+    _add_observers(parser, "--each and --visibility")
+    add("--target", dest="above", action="append", default=[], metavar="H",
+        help="height of the targets above the ground (0); once for all, or once for each --at")
+    add("--target-field", metavar="FIELD",
+        help="field of the points with the height of the target of each; --target is of --at then")
+    add("--visibility", metavar="FILE",
+        help="table, NAME.csv: how many cells each observer sees, and which others within its radius")
+
+
+def _add_observers(parser: argparse.ArgumentParser, named: str = "--each") -> None:
+    """Adds eyes and radii, and how the maps of observers are made.
+
+    Args:
+        named: the options that tell the observers' names.
+    """
+    add = parser.add_argument
     add("--eye", action="append", default=[], metavar="H",
         help="height of the eyes above the ground; once for all, or once for each --at")
     add("--eye-field", metavar="FIELD", help="field of the points with the height of each eye; --eye is of --at then")
-    add("--target", dest="above", action="append", default=[], metavar="H",
-        help="height of the targets above the ground (0); once for all, or once for each --at")
     add("--radius", action="append", default=[], metavar="R",
         help="how far is seen, as 5000 or 5km, rounded down to whole cells; once for all, or once for each --at; of a "
              "raster of more than 4,096 columns or rows only what lies within it is read")
-    for option, what in (("--target-field", "height of the target of each"), ("--radius-field", "radius of each")):
-        add(option, metavar="FIELD", help=f"field of the points with the {what}; {option[:-6]} is of --at then")
+    add("--radius-field", metavar="FIELD", help="field of the points with the radius of each; --radius is of --at then")
     add("--each", action="store_true", help="a band for each observer, in their order, in place of one of all")
-    add("--name-field", metavar="FIELD", help="field of the points with the name of each, for --each and --visibility")
-    add("--visibility", metavar="FILE",
-        help="table, NAME.csv: how many cells each observer sees, and which others within its radius")
+    add("--name-field", metavar="FIELD", help=f"field of the points with the name of each, for {named}")
     _add_curvature(parser)
 
 
@@ -245,7 +258,7 @@ def _add_gauges(parser: argparse.ArgumentParser) -> None:
 
 
 # What a map has that others have not.
-OWN = {"view": _add_view, "catchments": _add_gauges, "streams": _add_streams, "basins": _add_basins}
+OWN = {"view": _add_view, "rise": _add_observers, "catchments": _add_gauges, "streams": _add_streams, "basins": _add_basins}
 
 
 def _numbers(word: str, names: str) -> List[Decimal]:

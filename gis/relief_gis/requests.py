@@ -6,12 +6,11 @@ from typing import TYPE_CHECKING, Callable, Dict, List, Mapping, Optional, Seque
 
 import numpy as np
 
-from .blocks import row_blocks
 from .errors import InputError, UsageError
 from .frame import Frame
 from .grid_text import TakeRows
 from .heights import Heights
-from .making import SOURCES, Place, Request, lower_neighbour
+from .making import SIGHT, SOURCES, Place, Request, join_seen, lower_neighbour
 from .points import Point, Source, places_of, points_of, points_on_data, snap
 from .program import Program
 from .units import Reach, fraction_of, plain, radius_in_cells, whole_units
@@ -22,7 +21,7 @@ if TYPE_CHECKING:
 # How many points without a place a refusal names.
 MOST_NAMED = 10
 # The maps that need places, and what these are.
-NEEDED_PLACES = {"catchments": "gauges", "view": "observers"}
+NEEDED_PLACES = {"catchments": "gauges", **{name: "observers" for name in SIGHT}}
 
 Say = Callable[[str], None]
 # Moved gauges and the accumulation at each.
@@ -44,7 +43,7 @@ def requests_of(job: Job, frame: Frame, heights: Heights, program: Program,
     points = points_in(job, job.places, frame, has_data, caller.say)
     # A layer may have no points.
     check_count(job, points)
-    if job.map == "view":
+    if job.map in SIGHT:
         return views(job, points, frame, heights.decimals, radii(job, points, frame, caller.say)), None
     places = places_of(points, frame)
     if job.map != "catchments":
@@ -110,7 +109,7 @@ def views(job: Job, points: Sequence[Point], frame: Frame, decimals: int,
     for point in points:
         above = job.above if point.above is None else point.above
         groups.setdefault((above, radius_of(job, point)), []).append(point)
-    return [Request("view", places_of(group, frame, decimals, job.eye),
+    return [Request(job.map, places_of(group, frame, decimals, job.eye),
                     target=whole_units(above, decimals, "the target"),
                     radius=None if radius is None else cells[radius], workers=job.workers, tile=job.tile)
             for (above, radius), group in groups.items()]
@@ -118,7 +117,7 @@ def views(job: Job, points: Sequence[Point], frame: Frame, decimals: int,
 
 def made(requests: Sequence[Request], heights: Heights, program: Program, caller: Caller,
          on_rows: TakeRows, keeps: bool) -> np.ndarray:
-    """The map of one request; of several, which are views, how many observers of all of them see each cell.
+    """The map of one request; of several, which are those of observers, what all of these see.
 
     Args:
         on_rows: called with strips of the map, and their first rows, where they are written one after the other.
@@ -128,9 +127,7 @@ def made(requests: Sequence[Request], heights: Heights, program: Program, caller
         return caller.make(requests[0], heights, program, on_rows, keeps)
     found = caller.make(requests[0], heights, program)
     for request in requests[1:]:
-        more = caller.make(request, heights, program)
-        for rows in row_blocks(found.shape):
-            np.add(found[rows], more[rows], out=found[rows], where=heights.valid[rows])
+        join_seen(request.map, found, caller.make(request, heights, program))
     return found
 
 

@@ -12,6 +12,7 @@ from .errors import InputError
 from .heights import Heights
 from .making import NODATA_CODE, NODATA_COUNT
 from .raster import Terrain
+from .units import MOST_EYE_UNITS
 from .voids import fits, limits
 
 # A float32 tells apart all whole numbers of units up to this one.
@@ -60,6 +61,11 @@ def result_of(name: str, terrain: Terrain, heights: Heights, found: Optional[np.
         return _filled(terrain, heights, found)
     if name == "depth":
         return _depth(terrain, heights, found)
+    if name == "rise":
+        # Of heights that are seen by nobody, however high, there is none.
+        dtype = _least_type(heights.decimals, MOST_EYE_UNITS)
+        return Result(dtype, NODATA_COUNT, terrain.unit, lambda units, rows: np.where(
+            units == NODATA_COUNT, dtype.type(NODATA_COUNT), (units / 10.0**heights.decimals).astype(dtype)))
     if name == "area":
         # One rounding: the area is the float that is nearest to it.
         by, part = map(float, (terrain.frame.cell ** 2).as_integer_ratio())

@@ -36,7 +36,7 @@ def color_table(name: str) -> Optional[Dict[int, Color]]:
 
 def needs_most(name: str) -> bool:
     """Whether the style of a map takes its greatest value."""
-    return name in ("view", "accumulate", "depth")
+    return name in ("view", "rise", "accumulate", "depth")
 
 
 def needs_numbers(name: str) -> bool:
@@ -82,6 +82,10 @@ def style(name: str, numbers: Numbers, most: float, decimals: int = 0) -> Option
         return None if found is None else _palette([(it, _hue(it * GOLDEN_TURN), str(it)) for it in found])
     if name == "view":
         return _palette(_seen(int(most)))
+    if name == "rise":
+        shares = (0.1, 0.25, 0.5, 1.0) if most > 0 else ()
+        return _classes([(0.0, (255, 220, 40, 200), "seen")] + [
+            (most * share, _blue(share), f"up to {most * share:.{max(decimals, 1)}f}") for share in shares])
     if name == "accumulate":
         return _classes(_steps_of_counts(most))
     if name == "depth" and most > 0:

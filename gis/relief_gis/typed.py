@@ -8,6 +8,7 @@ from typing import Iterator, List, Optional, Sequence, Tuple, Union
 
 from .comparison import Comparison
 from .job import Job, Source
+from .making import SIGHT
 from .points import Layer, Point
 from .units import Measure
 
@@ -60,7 +61,7 @@ def _places(word: str, layer: str, sources: Sequence[Source]) -> Iterator[Option
 
 def _observers(job: Job) -> Iterator[Option]:
     """What all observers have, once, or what each has, in their order."""
-    if job.map != "view":
+    if job.map not in SIGHT:
         return
     points = [source for source in job.places if isinstance(source, Point)]
     layers = [source for source in job.places if isinstance(source, Layer)]

@@ -1,4 +1,4 @@
-"""Views that the program cannot make in one run: of rasters of any size, for each mast, on the curved earth.
+"""Views and rises that the program cannot make in one run: of rasters of any size, for each mast, on the curved earth.
 
 Of a raster that is larger than what the program takes only the surroundings of the observers are read.
 """
@@ -12,7 +12,6 @@ from typing import TYPE_CHECKING, Callable, List, Mapping, Sequence, Tuple
 
 import numpy as np
 
-from .blocks import row_blocks
 from .curvature import drop_of_a_cell, lowered
 from .draft import Draft, save_drafts, write_text
 from .errors import InputError
@@ -20,7 +19,7 @@ from .frame import Window
 from .grid_text import STRIP
 from .heights import MOST_SIDE, Heights
 from .lands import checked, heights_in_units, tell_rounding, tell_units
-from .making import NODATA_COUNT, Place
+from .making import NODATA_COUNT, Place, join_seen
 from .points import Point, places_of
 from .program import Program
 from .raster import Raster, Terrain
@@ -167,7 +166,7 @@ class _Run:
         if self.job.curvature:
             self.drop = drop_of_a_cell(frame, self.raster.unit, heights.decimals, self.job.refraction)
         self.names = [point.label or str(point) for point in points]
-        return Draft(self.job, replace(terrain, frame=frame.part(self.box.window)), heights, "view",
+        return Draft(self.job, replace(terrain, frame=frame.part(self.box.window)), heights, self.job.map,
                      self.program.version, self.names if self.job.each else None)
 
     def map_together(self, part: Part, heights: Heights) -> None:
@@ -198,8 +197,8 @@ class _Run:
         save_drafts([draft], self.caller.say)
 
     def _begin_seen(self, heights: Heights) -> None:
-        """Of a raster that is read as a whole a cell with data that nobody sees has 0."""
-        if not self.raster.is_wide:
+        """Of a raster that is read as a whole a cell with data that nobody sees has 0 in a view."""
+        if not self.raster.is_wide and self.job.map == "view":
             self.seen[heights.valid] = 0
 
     def _map_one(self, observer: Observer, near: Heights, draft: Draft) -> None:
@@ -233,12 +232,8 @@ class _Run:
             draft.put(band, first, observer.number)
 
     def _add(self, box: Box, found: np.ndarray) -> None:
-        """Adds how many see the cells of a box; where there is data and nobody sees, it is 0."""
-        seen = self.seen[box.within(self.box)]
-        for rows in row_blocks(found.shape):
-            has_data = found[rows] != NODATA_COUNT
-            seen[rows][has_data & (seen[rows] == NODATA_COUNT)] = 0
-            np.add(seen[rows], found[rows], out=seen[rows], where=has_data)
+        """Adds what is seen of the cells of a box; where there is data and nobody sees, a view has 0."""
+        join_seen(self.job.map, self.seen[box.within(self.box)], found)
 
 
 def _whole(raster: Raster) -> Box:

@@ -4,7 +4,7 @@ from osgeo import gdal
 import fuzz_layers
 import fuzz_rasters
 
-MAPS = ("fill", "depth", "flow", "accumulate", "area", "streams", "basins", "catchments", "view")
+MAPS = ("fill", "depth", "flow", "accumulate", "area", "streams", "basins", "catchments", "view", "rise")
 DEGREES_OF = {32632: 4326, 3857: 4326, 25833: 4258, 3035: 4258}
 
 
@@ -35,7 +35,7 @@ class Case(fuzz_rasters.Raster):
             self.draw_threshold()
         if self.map == "basins" and self.is_rare(3):
             self.draw_least()
-        if self.map == "view":
+        if self.map in ("view", "rise"):
             self.draw_view_points()
         elif self.map == "catchments":
             self.draw_gauges()
@@ -43,7 +43,7 @@ class Case(fuzz_rasters.Raster):
             self.draw_points("--at", "--points")
         if self.is_rare(20) and any(word.startswith(("--at", "--points")) for word in self.options):
             self.options += ["--skip"]
-        if self.is_rare(6) and self.map not in ("fill", "depth", "view"):
+        if self.is_rare(6) and self.map not in ("fill", "depth", "view", "rise"):
             self.draw_uncertain()
         self.draw_running()
 
@@ -181,6 +181,10 @@ class Case(fuzz_rasters.Raster):
                 self.written.append("points.gpkg" if self.is_rare(10) else "moved.gpkg")
                 self.options += ["--snapped", str(self.folder / self.written[-1])]
 
+    def has_option(self, option):
+        """Whether a map of observers has an option: a rise has no targets."""
+        return self.map == "view" or not option.startswith("--target") or self.is_rare(60)
+
     def draw_view_points(self):
         """Words of observers, eyes, targets and radii."""
         self.draw_points("--at", "--points")
@@ -189,8 +193,9 @@ class Case(fuzz_rasters.Raster):
         if has_field:
             self.options += ["--eye-field", "height"]
         if "--points" in self.options:
-            self.options += [word for name, field in (("--target-field", "top"), ("--radius-field", "reach"))
-                             if self.is_rare(4) for word in (name, field)]
+            fields = (("--target-field", "top"), ("--radius-field", "reach"))
+            self.options += [word for name, field in fields if self.has_option(name) and self.is_rare(4)
+                             for word in (name, field)]
         if self.is_rare(4):
             self.options += ["--curvature", *self.chance.choice(([], ["--refraction", "0"], ["--refraction=0.2"]))]
         elif self.is_rare(40):
@@ -199,6 +204,8 @@ class Case(fuzz_rasters.Raster):
         reach = [str(self.side * part) for part in (1, 2.5, 3, 8)]
         for option, texts, is_needed in (("--eye", heights, not has_field), ("--target", heights, False),
                                          ("--radius", [*reach, "90", "3", "0.25", "0.1km", "60m"], False)):
+            if not self.has_option(option):
+                continue
             count = given if given > 1 and self.is_rare(3) else 1
             count += self.is_rare(40)
             if is_needed or self.is_rare(2 if not has_field else 3):

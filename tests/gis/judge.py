@@ -9,6 +9,8 @@ WAYS = {1: (0, 1), 2: (1, 1), 4: (1, 0), 8: (1, -1), 16: (0, -1), 32: (-1, -1), 
 HIGHEST = 10 ** 15
 HIGHEST_EYE = 10 ** 6
 FARTHEST = 8192
+# The greatest height of a target, in units.
+HIGHEST_TARGET = 10 ** 6
 
 
 class Drainage:
@@ -111,6 +113,29 @@ def weight(code, drop):
 def view(land, observers):
     """How many of the observers (cell, eye, target height, radius or None) see each cell."""
     return {cell: sum(is_seen(land, cell, *observer) for observer in observers) for cell in land}
+
+
+def rise(land, observers):
+    """The least target height, 0 to a million, at which an observer (cell, eye, radius or None) sees each cell.
+
+    Cells that none sees, however high, are left out.
+    """
+    found = {}
+    for cell in land:
+        heights = [least_seen(lambda above: is_seen(land, cell, observer, eye, above, radius))
+                   for observer, eye, radius in observers]
+        if min(heights, default=HIGHEST_TARGET + 1) <= HIGHEST_TARGET:
+            found[cell] = min(heights)
+    return found
+
+
+def least_seen(sees):
+    """The least height at which a target is seen, which stays seen as it is raised; more than the highest: none."""
+    hidden, seen = -1, HIGHEST_TARGET + 1
+    while seen - hidden > 1:
+        middle = (hidden + seen) // 2
+        hidden, seen = (hidden, middle) if sees(middle) else (middle, seen)
+    return seen
 
 
 def is_seen(land, target, observer, eye, above, radius):

@@ -19,8 +19,9 @@ VALUED = ("band", "decimals", "voids", "window", "bounds", "projection", "worker
           "eye-field", "target", "radius", "threshold", "snap", "snapped", "sink-at", "sinks", "uncertain",
           "target-field", "radius-field", "refraction", "least")
 OWN = {"streams": ("threshold",), "catchments": ("snap", "snapped", "sink-at", "sinks"), "basins": ("least",),
-       "view": ("eye", "eye-field", "target", "radius", "target-field", "radius-field", "curvature", "refraction")}
-NOT_BELOW = ("fill", "depth", "view")
+       "view": ("eye", "eye-field", "target", "radius", "target-field", "radius-field", "curvature", "refraction"),
+       "rise": ("eye", "eye-field", "radius", "radius-field", "curvature", "refraction")}
+NOT_BELOW = ("fill", "depth", "view", "rise")
 
 
 def options_of(words):
@@ -92,22 +93,35 @@ def column(scene, options, given, found, index, name, default):
 
 def view_of(scene, options):
     """How many observers see each cell, with the earth's curvature where it counts."""
+    counts = dict.fromkeys(scene.land, 0)
+    for land, found in lands_of(scene, options):
+        for place, seen in judge.view(land, found).items():
+            counts[place] += seen
+    return counts
+
+
+def rise_of(scene, options):
+    """The least height of a target that an observer sees, with the earth's curvature where it counts."""
+    heights = {}
+    for land, found in lands_of(scene, options):
+        for place, units in judge.rise(land, [(cell, eye, radius) for cell, eye, _, radius in found]).items():
+            heights[place] = min(units, heights.get(place, units))
+    return {place: Fraction(units, 10 ** scene.decimals) for place, units in heights.items()}
+
+
+def lands_of(scene, options):
+    """The land as it lies for observers, and these: all, or each by itself where the earth's curvature counts."""
     found = observers(scene, options)
     if "curvature" not in options:
         if "refraction" in options:
             raise Refused("refraction of no curvature")
-        return judge.view(scene.land, found)
+        return [(scene.land, found)]
     refraction = number(options.get("refraction", ["0.13"])[-1])
     if not 0 <= refraction <= 1:
         raise Refused("no share")
     drop = (1 - refraction) * scene.square_of_cell() / (2 * scene.height_unit()) * 10 ** scene.decimals
-    counts = dict.fromkeys(scene.land, 0)
-    for cell, *rest in found:
-        land = {place: height - nearest(drop * ((place[0] - cell[0]) ** 2 + (place[1] - cell[1]) ** 2))
-                for place, height in scene.land.items()}
-        for place, seen in judge.view(land, [(cell, *rest)]).items():
-            counts[place] += seen
-    return counts
+    return [({place: height - nearest(drop * ((place[0] - cell[0]) ** 2 + (place[1] - cell[1]) ** 2))
+              for place, height in scene.land.items()}, [(cell, *rest)]) for cell, *rest in found]
 
 
 def nearest(units):
@@ -171,9 +185,9 @@ def snapped(scene, drainage, gauges, reach):
 
 def refuse_words(name, options):
     """Refuses options that a map does not have, and words that are no numbers."""
-    for other, own in OWN.items():
-        if other != name and any(option in options for option in own):
-            raise Refused("an option of another map")
+    own = OWN.get(name, ())
+    if any(option in options and option not in own for others in OWN.values() for option in others):
+        raise Refused("an option of another map")
     for option, texts in options.items():
         if option not in GIVEN_AGAIN and len(texts) > 1:
             raise Unknown("an option that is given again")
@@ -186,7 +200,7 @@ def refuse_words(name, options):
         raise Refused("too many workers, or too large a tile")
     if "snapped" in options and "snap" not in options:
         raise Refused("where gauges were moved to, that were not moved")
-    if name in ("catchments", "view") and "at" not in options and "points" not in options:
+    if name in ("catchments", "view", "rise") and "at" not in options and "points" not in options:
         raise Refused("no point")
 
 
@@ -222,8 +236,8 @@ def verdict(words):
     if name == "streams" and "threshold" not in options:
         raise Refused("no threshold")
     scene = Scene(source, options)
-    if name == "view":
-        return scene, [view_of(scene, options)]
+    if name in ("view", "rise"):
+        return scene, [(view_of if name == "view" else rise_of)(scene, options)]
     if name == "catchments":
         return scene, catchments(scene, options)
     drainage = judge.Drainage(scene.land, subjects(scene, options))

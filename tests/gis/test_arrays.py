@@ -205,7 +205,8 @@ class Arrays(Case):
 
     def test_every_public_function_is_typed_and_told(self):
         for name in ("fill", "flow", "accumulate", "basins", "catchments", "view", "uncertain", "depth", "area",
-                     "streams", "profile", "compare", "maps", "view_each", "visibility"):
+                     "streams", "profile", "compare", "maps", "view_each", "visibility",
+                     "rise"):
             function = getattr(relief_gis, name)
             self.assertIn("Returns:", function.__doc__)
             self.assertIn("Raises:", function.__doc__)

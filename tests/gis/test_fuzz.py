@@ -53,6 +53,13 @@ class Rules(unittest.TestCase):
         self.assertEqual(rows_of(judge.view(land, [((0, 0), 1, 0, None)]), 1, 5), [[1, 1, 0, 1, 1]])
         self.assertEqual(rows_of(judge.view(land, [((0, 0), 1, 0, 3)]), 1, 5), [[1, 1, 0, 1, 0]])
 
+    def test_rise_over_a_crest(self):
+        # From 12 over 9 at three quarters of the way: 12 / 4 + 3 h / 4 is 9 where h is 8.
+        land = land_of([[10, 0, 0, 9, 0]])
+        self.assertEqual(judge.rise(land, [((0, 0), 2, None)]), {(0, 0): 0, (0, 1): 0, (0, 2): 0, (0, 3): 0, (0, 4): 8})
+        self.assertEqual(sorted(judge.rise(land, [((0, 0), 2, 2)])), [(0, 0), (0, 1), (0, 2)])
+        self.assertEqual(judge.rise(land, []), {})
+
     def test_sight_between_centres(self):
         # From the first row's west to the last cell the line passes between 0 and 2 one column on: ground 1, line 1/2.
         land = land_of([[0, 0, 0], [0, 2, 0]])

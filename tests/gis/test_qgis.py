@@ -12,8 +12,9 @@ from concurrent.futures import ThreadPoolExecutor
 import numpy as np
 from osgeo import gdal, ogr
 
-from fixtures import HERE, UTM, Case, centre, hills, info, make_points, make_raster, read
+from fixtures import HERE, RELIEF, UTM, Case, centre, hills, info, make_points, make_raster, read
 from qgis_profile import Profile
+from relief_gis.program import Program
 
 PARALLEL = 3
 
@@ -71,6 +72,10 @@ class Algorithms(Case):
             ("view", [*self.points, "--EYE_FIELD=height", f"--AT={click} [{UTM}]", "--EYE=1.5", "--TARGET=1",
                       "--RADIUS=400", "--VOIDS=1", "--DECIMALS=2"],
              ["--at", click, *layer, "--eye-field", "height", "--eye", "1.5", "--target", "1", "--radius", "400"]),
+            *[("rise", [*self.points, "--EYE_FIELD=height", f"--AT={click} [{UTM}]", "--EYE=1.5", "--RADIUS=400",
+                        "--EACH=true", "--CURVATURE=true"],
+               ["--at", click, *layer, "--eye-field", "height", "--eye", "1.5", "--radius", "400", "--each",
+                "--curvature"])] * Program.find(RELIEF).has_map("rise"),
             ("catchments", [*self.points, f"--AT={click} [{UTM}]", "--SNAP=3", f"--SINKS={sinks}",
                             f"--SNAPPED={self.folder / 'moved.gpkg'}"],
              ["--at", click, *layer, "--snap", "3", "--sinks", "sinks.gpkg"]),

@@ -10,7 +10,7 @@ from . import labels
 from .base import MapAlgorithm, tr
 from .compare import Compare
 from .several import Maps, add_threshold, threshold_of
-from .sight import Profile, View
+from .sight import Profile, Rise, View
 
 
 class Fill(MapAlgorithm):
@@ -119,4 +119,4 @@ class Catchments(MapAlgorithm):
 
 
 ALGORITHMS: List[Type[QgsProcessingAlgorithm]] = [
-    Fill, Depth, Flow, Accumulate, Area, Streams, Basins, Catchments, Maps, View, Profile, Compare]
+    Fill, Depth, Flow, Accumulate, Area, Streams, Basins, Catchments, Maps, View, Rise, Profile, Compare]

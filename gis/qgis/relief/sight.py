@@ -1,4 +1,4 @@
-"""The algorithms of sight: viewsheds and profiles."""
+"""The algorithms of sight: viewsheds, rises and profiles."""
 from __future__ import annotations
 
 from typing import Any, Dict, Optional
@@ -24,6 +24,8 @@ class View(MapAlgorithm):
              "flat unless you let it curve: at 10 km a target then stands 7.8 m too high. With a radius the raster may "
              "have any size.")
     has_around = False
+    # Whether targets have a height that is given, and their sight of each other is told.
+    has_targets = True
 
     def add_places(self) -> None:
         """Adds eyes, targets and radius, by number and by field."""
@@ -32,7 +34,8 @@ class View(MapAlgorithm):
         # A number that has to be given would begin with 0: one that may be left out begins empty, and is asked for.
         self.addParameter(number(self.EYE, tr(f"{labels.EYE}, in the unit of heights"), number.Double, None, True, 0))
         self.addParameter(field(self.EYE_FIELD, tr(labels.EYE_FIELD), None, self.POINTS, field.Numeric, False, True))
-        self.addParameter(number(self.TARGET, tr(labels.TARGET), number.Double, 0.0, False, 0))
+        if self.has_targets:
+            self.addParameter(number(self.TARGET, tr(labels.TARGET), number.Double, 0.0, False, 0))
         self.addParameter(QgsProcessingParameterDistance(
             self.RADIUS, tr(f"{labels.RADIUS} (empty: over the whole raster)"), None, self.INPUT, True, 0))
         self.addParameter(QgsProcessingParameterBoolean(self.EACH, tr(labels.EACH), False))
@@ -40,9 +43,11 @@ class View(MapAlgorithm):
         for name, label, kind in ((self.TARGET_FIELD, labels.TARGET_FIELD, field.Numeric),
                                   (self.RADIUS_FIELD, labels.RADIUS_FIELD, field.Numeric),
                                   (self.NAME_FIELD, labels.NAME_FIELD, field.Any)):
-            self.add_advanced(field(name, tr(label), None, self.POINTS, kind, False, True))
-        self.addParameter(QgsProcessingParameterFileDestination(
-            self.VISIBILITY, tr(labels.VISIBILITY), "CSV (*.csv)", None, True, False))
+            if self.has_targets or name != self.TARGET_FIELD:
+                self.add_advanced(field(name, tr(label), None, self.POINTS, kind, False, True))
+        if self.has_targets:
+            self.addParameter(QgsProcessingParameterFileDestination(
+                self.VISIBILITY, tr(labels.VISIBILITY), "CSV (*.csv)", None, True, False))
 
     def checkParameterValues(self, parameters: Dict[str, Any], context: QgsProcessingContext):  # noqa: N802
         """Asks before the run for the one eye that each observer has: a click has none of a field."""
@@ -55,25 +60,35 @@ class View(MapAlgorithm):
 
     def fields(self, parameters: Dict[str, Any], context: QgsProcessingContext) -> Dict[str, str]:
         """The fields of eyes, targets, radii and names."""
-        names = {"eye": self.EYE_FIELD, "above": self.TARGET_FIELD, "radius": self.RADIUS_FIELD,
-                 "label": self.NAME_FIELD}
+        names = {"eye": self.EYE_FIELD, "radius": self.RADIUS_FIELD, "label": self.NAME_FIELD}
+        if self.has_targets:
+            names["above"] = self.TARGET_FIELD
         found = {what: self.parameterAsFields(parameters, name, context) for what, name in names.items()}
         return {what: fields[0] if fields else "" for what, fields in found.items()}
 
     def job_words(self, parameters, context, layer, target):
         """Adds eyes, targets and radius, and how what is seen is told."""
         words = super().job_words(parameters, context, layer, target)
-        words["above"] = self.number(parameters, self.TARGET, context)
+        if self.has_targets:
+            words["above"] = self.number(parameters, self.TARGET, context)
+            words["visibility"] = self.parameterAsFileOutput(parameters, self.VISIBILITY, context) or None
         for field, name in (("eye", self.EYE), ("radius", self.RADIUS)):
             if parameters.get(name) not in (None, ""):
                 words[field] = self.number(parameters, name, context)
         words["each"] = self.parameterAsBool(parameters, self.EACH, context)
-        words["visibility"] = self.parameterAsFileOutput(parameters, self.VISIBILITY, context) or None
         return {**words, **curvature_of(self, parameters, context)}
 
     def results(self, asked: Any) -> Dict[str, Any]:
         """Adds the table of who sees whom."""
         return {**super().results(asked), **({self.VISIBILITY: asked.visibility} if asked.visibility else {})}
+
+
+class Rise(View):
+    map, title, output = "rise", "Rise", "Rise"
+    about = ("The least height above each cell's ground at which one of the observers sees a target: 0 is what they see "
+             "of the ground. Lines of sight are straight and exact. The earth is taken for flat unless you let it "
+             "curve. With a radius the raster may have any size.")
+    has_targets = False
 
 
 class Profile(MapAlgorithm):
