@@ -53,7 +53,7 @@ recipes:
 OUT = $(basename $(IN)).png
 picture:
 	@test -n "$(IN)" || { echo "make picture IN=grid.asc [OUT=grid.png]" \
-	  "[KIND=heights|fill|flow|accumulate|basins|catchments|view]" \
+	  "[KIND=heights|fill|flow|accumulate|basins|catchments|view|rise]" \
 	  "[OVER=terrain.asc] [MARK=\"ROW,COL ..\"] [UNIT=m] [SIDE=1024]" >&2; exit 1; }
 	@tools/picture "$(IN)" "$(OUT)" $(if $(KIND),--kind "$(KIND)") $(if $(OVER),--over "$(OVER)") \
 	  $(if $(MARK),--mark $(MARK)) $(if $(UNIT),--unit "$(UNIT)") $(if $(SIDE),--side "$(SIDE)")
