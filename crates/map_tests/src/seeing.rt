@@ -113,12 +113,13 @@ fn expect_rise<R: Abort + Threads + Wait + Sync>(
     }
 }
 
-/// The last cell is over both ridges at 9 units. A second observer lowers; past the radius is none.
+/// The second ridge is over the first at 3 units, the last cell over both at 9. A second observer
+/// lowers; past the radius is none.
 #[test]
 fn least_heights(rt: HostRuntime) {
     let alloc = rt.alloc();
     let land = land(&rt, alloc, 5, 1, "0 3 1 6 3");
-    expect_rise(&rt, alloc, &land, &[CORNER], LONGEST_RADIUS, "00509");
+    expect_rise(&rt, alloc, &land, &[CORNER], LONGEST_RADIUS, "00539");
     let both = [CORNER, observer(0, 4, 0)];
     expect_rise(&rt, alloc, &land, &both, LONGEST_RADIUS, "00500");
     expect_rise(&rt, alloc, &land, &[CORNER], 1, "00...");

@@ -108,7 +108,7 @@ fn expect_crowded<R: Abort + Threads + Wait + Sync>(
 fn as_many_tiles_at_once_as_workers(rt: HostRuntime) -> Result<(), Fail> {
     let alloc = rt.alloc();
     for workers in [3, 8, 64] {
-        expect_crowded(&rt, alloc, Map::Basins, workers, 7)?;
+        expect_crowded(&rt, alloc, Map::Basins, workers, 6)?;
         let mut gauges = Vec::new(alloc);
         gauges
             .push(Place { row: 0, col: 0 })

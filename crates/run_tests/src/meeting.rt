@@ -117,8 +117,7 @@ pub(crate) fn cut(rt: &impl Abort, alloc: Global, text: &[u8], side: u32) -> (Gr
 
 /// Each stage has as many jobs as there are tiles.
 /// The stages of `viewshed` find greatest heights of blocks, then values. Those of `filled` flood,
-/// then raise. Those of `accumulation` and `catchments` find flow in tiles, then values. `basins`
-/// has a stage before these two, which counts outlets.
+/// then raise. Those of `accumulation`, `basins` and `catchments` find flow in tiles, then values.
 #[test]
 fn tiles_meet_at_each_stage(rt: HostRuntime) {
     let alloc = rt.alloc();
@@ -136,7 +135,7 @@ fn tiles_meet_at_each_stage(rt: HostRuntime) {
     gate.expect(&rt, 2, 4, "accumulation");
     let gate = Meeting::new();
     assert!(rt; basins(&rt, alloc, &ways, &tiling, 2, &gate).is_ok());
-    gate.expect(&rt, 3, 4, "basins");
+    gate.expect(&rt, 2, 4, "basins");
     let gate = Meeting::new();
     let gauge = Place { row: 2, col: 2 };
     assert!(rt; catchments(&rt, alloc, &ways, &[gauge], &tiling, 2, &gate).is_ok());
@@ -177,9 +176,9 @@ fn idle_tiles_have_a_job_in_each_round(rt: HostRuntime) {
     gate.expect(&rt, 3, 4, "directions");
 }
 
-/// A grid of three tiles has three jobs at each of three stages, also with one worker.
+/// A grid of three tiles has three jobs at each of two stages, also with one worker.
 #[test]
-fn three_stages_of_three_jobs(rt: HostRuntime) {
+fn two_stages_of_three_jobs(rt: HostRuntime) {
     let alloc = rt.alloc();
     let (level, tiling) = cut(&rt, alloc, LEVEL, 2);
     let level = filled(&rt, alloc, &level, &tiling, 1, &NoGate).expect(&rt, "levels");
@@ -187,14 +186,14 @@ fn three_stages_of_three_jobs(rt: HostRuntime) {
     for workers in [2, 8] {
         let gate = Meeting::new();
         assert!(rt; basins(&rt, alloc, &ways, &tiling, workers, &gate).is_ok());
-        gate.expect(&rt, 3, 3, "basins");
+        gate.expect(&rt, 2, 3, "basins");
     }
     let gate = Meeting {
         looks: 0,
         ..Meeting::new()
     };
     assert!(rt; basins(&rt, alloc, &ways, &tiling, 1, &gate).is_ok());
-    assert_eq!(rt; gate.all.load(Ordering::SeqCst), 9);
+    assert_eq!(rt; gate.all.load(Ordering::SeqCst), 6);
 }
 
 /// Returns the map that two workers write, with a gate, for tiles of this side.
@@ -273,7 +272,7 @@ fn tiles_of_catchments_meet(rt: HostRuntime) {
 }
 
 /// A run has the stages of the calls that it makes: `filled` 2, `directions` 3, `accumulation` 2,
-/// `basins` 3, `viewshed` 2.
+/// `basins` 2, `viewshed` 2.
 #[test]
 fn tiles_meet_over_corridors(rt: HostRuntime) {
     let alloc = rt.alloc();
@@ -327,7 +326,7 @@ fn tiles_meet_over_corridors(rt: HostRuntime) {
         ),
         (
             Map::Basins,
-            8,
+            7,
             "
 1 2 3 3 3 3 3 3 4 5
 6 3 3 3 3 3 3 3 7 7
