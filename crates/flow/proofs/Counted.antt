@@ -1,6 +1,6 @@
 -- The counts that a tile's job makes from flow and inflows are the accumulations of the tile's
 -- data cells; entries are `None` at NODATA.
-use Rattle.std.proofs.Common.{◌≡◌, ℕ, ◌+◌, ◌-◌, ◌<◌, ◌≤◌, inl, inr, List, length, get_or, cond, Option, None, Some, is_some, slice_get, sym, ap, subst, refl, ◌∙◌, arith}
+use Rattle.std.proofs.Common.{◌≡◌, ℕ, ◌-◌, ◌<◌, ◌≤◌, inl, inr, List, length, get_or, cond, Option, None, Some, is_some, slice_get, sym, ap, subst, refl, ◌∙◌, arith}
 use Rattle.std.proofs.Math.ListN.{length-map}
 use Rattle.std.proofs.lemmas.Bool.{cases_lt, cases_Bool, cond-true, cond-false}
 use Rattle.std.proofs.lemmas.List.{get_or-map, get_or_past}
@@ -13,7 +13,7 @@ use Rattle.tiles.proofs.Cut.{in_bounds, bounds_inside}
 use Rattle.tiles.proofs.TileOrder.{index_in_below, index_in-place_in, place_in-index_in, tile_entry-in}
 use Rattle.drainage.specs.Following.{Directed, code_at}
 use Rattle.flow.specs.Counts.{accumulation, IsValueAt}
-use Rattle.flow.specs.Streams.{AreStreams, AreUpstream, total}
+use Rattle.flow.specs.Streams.{AreStreams, AreSums, total}
 use Rattle.flow.specs.TileFlow.{Flow, IsTileExits, AreTileCounts}
 use Rattle.flow.specs.TileLinks.{AreTileCodes, links_by, weights_by, where_data}
 use Rattle.flow.specs.Whole.{IsGridFlow, make_directed}
@@ -151,12 +151,11 @@ module _ (t : Cutting) (codes : List (Option ℕ)) (flows : List Flow) (inflows 
         total_drained = total_is links weights _ streams_of (all_totals (make_directed t.cols t.rows
             codes) ending t tile (bounds_of t tile) links piece_of weights weights_are)
 
-        module _ (upstream : List ℕ) (up : AreUpstream links weights upstream) where
+        module _ (totals : List ℕ) (summed : AreSums links weights totals) where
           entry_is : (p : Place) → IsInBounds (bounds_of t tile) p →
-              get_or (counts_by f.codes weights upstream) (index_in (bounds_of t tile) p) None
+              get_or (counts_by f.codes totals) (index_in (bounds_of t tile) p) None
               ≡ where_data (code_at (make_directed t.cols t.rows codes) p)
-              (get_or upstream (index_in (bounds_of t tile) p) 0
-              + get_or weights (index_in (bounds_of t tile) p) 0 - 1)
+              (get_or totals (index_in (bounds_of t tile) p) 0 - 1)
           entry_is p h =
               let i = index_in (bounds_of t tile) p in
               let in_cells : index_in (bounds_of t tile) p < length f.codes =
@@ -167,22 +166,20 @@ module _ (t : Cutting) (codes : List (Option ℕ)) (flows : List Flow) (inflows 
               ∙ ap (code_at (make_directed t.cols t.rows codes))
               (place_in-index_in (bounds_of t tile) p h) in
               get_or-map-range_with_len (λ i. where_data (get_or f.codes i None)
-              (get_or upstream i 0 + get_or weights i 0 - 1)) 0 (length f.codes) (index_in
-              (bounds_of t tile) p) (index_in (bounds_of t tile) p) None in_cells (omega arith)
-              ∙ ap (λ o. where_data o (get_or upstream (index_in (bounds_of t tile) p) 0
-              + get_or weights (index_in (bounds_of t tile) p) 0 - 1)) code
+              (get_or totals i 0 - 1)) 0 (length f.codes) i i None in_cells (omega arith)
+              ∙ ap (λ o. where_data o (get_or totals i 0 - 1)) code
 
           count_is : (p : Place) → IsInBounds (bounds_of t tile) p →
               IsCoded (make_directed t.cols t.rows codes) p →
-              get_or upstream (index_in (bounds_of t tile) p) 0 + get_or weights (index_in
-              (bounds_of t tile) p) 0 - 1 ≡ accumulation (make_directed t.cols t.rows codes) p
+              get_or totals (index_in (bounds_of t tile) p) 0 - 1
+              ≡ accumulation (make_directed t.cols t.rows codes) p
           count_is p h is =
               let at = place_in-index_in (bounds_of t tile) p h in
               let there : index_in (bounds_of t tile) p < length links =
               omega (arith, index_in_below (bounds_of t tile) p h, of_cells.size, same_sizes) in
               omega (
                 arith,
-                up.each (index_in (bounds_of t tile) p) there,
+                summed.each (index_in (bounds_of t tile) p) there,
                 total_drained (index_in (bounds_of t tile) p) there,
                 ap (all_drained (make_directed t.cols t.rows codes)) at,
                 accumulation_is (make_directed t.cols t.rows codes) ending p is,
@@ -233,9 +230,9 @@ module _ (t : Cutting) (codes : List (Option ℕ)) (flows : List Flow) (inflows 
         match_data (code_at (make_directed t.cols t.rows codes) p) _ _ _
         (tile_entry-in t tile values p i
         ∙ ap (λ (l : List (Option ℕ)). get_or l (index_in (bounds_of t tile) p) None) are.made
-        ∙ entry_is (links_by f.bounds f.codes) made are.weights weighed are.upstream are.up p h)
+        ∙ entry_is (links_by f.bounds f.codes) made are.weights weighed are.totals are.summed p h)
         (λ code is. count_is (links_by f.bounds f.codes)
-        made are.weights weighed are.upstream are.up p h (record { code = code; is = is }))
+        made are.weights weighed are.totals are.summed p h (record { code = code; is = is }))
 
   pub countable_all : AreCountable t flows inflows
   countable_all = record {
@@ -248,4 +245,4 @@ pub counts_size : (inflows : Inflows) (tile : ℕ) (f : Flow) (values : List (Op
     AreCounts inflows tile f values → length values ≡ length f.codes
 counts_size inflows tile f values are =
     ap length are.made ∙ length-map-range_with_len (λ i. where_data (get_or f.codes i None)
-    (get_or are.upstream i 0 + get_or are.weights i 0 - 1)) 0 (length f.codes)
+    (get_or are.totals i 0 - 1)) 0 (length f.codes)

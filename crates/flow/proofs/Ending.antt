@@ -116,9 +116,12 @@ end-onward links s i h = node_after-first links i (length links) ∙ s.ends i h
 abbrev pub SharesEnd : List ℕ → ℕ → ℕ → Type 0
 SharesEnd links from node = (node < length links) × (end_of links node ≡ end_of links from)
 
-pub next_on_path : (links : List ℕ) → AreStreams links → (from node : ℕ) →
-    SharesEnd links from node → SharesEnd links from (next_node links node)
-next_on_path links s from node on = (s.inside node on.0, end-onward links s node on.0 ∙ on.1)
+pub next_on_path : (links : List ℕ) → AreStreams links → (from node next : ℕ) →
+    next ≡ next_node links node → SharesEnd links from node → SharesEnd links from next
+next_on_path links s from node next is on = (
+  omega (arith, is, s.inside node on.0),
+  ap (end_of links) is ∙ end-onward links s node on.0 ∙ on.1,
+)
 
 pub end-inside : (links : List ℕ) → AreStreams links → (i : ℕ) → i < length links →
     end_of links i < length links

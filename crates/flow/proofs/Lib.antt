@@ -15,7 +15,7 @@ pub mod DrainedCells
 pub mod InTile
 pub mod Piece
 pub mod Listed
-pub mod InteriorLinks
+pub mod Moved
 -- from tile to tile, over the rims
 pub mod RimCells
 pub mod RimFlows

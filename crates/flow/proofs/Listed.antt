@@ -33,14 +33,14 @@ made_at cells value n i code x inside h read same =
     ∙ sym (get_or-map-range_with_len
     (λ i. where_data (get_or cells i None) (value i)) 0 n i i None h (omega arith))
 
-pub through_past : (cells : List (Option ℕ)) (upstream : List ℕ) (i : ℕ) → length upstream ≤ i →
-    get_or (through_list cells upstream) i None ≡ None
-through_past cells upstream i past =
-    get_or_past (through_list cells upstream) i None (omega (
+pub through_past : (cells : List (Option ℕ)) (totals : List ℕ) (i : ℕ) → length totals ≤ i →
+    get_or (through_list cells totals) i None ≡ None
+through_past cells totals i past =
+    get_or_past (through_list cells totals) i None (omega (
       arith,
       past,
-      length-map-range_with_len (λ i. where_data (get_or cells i None) (get_or upstream i 0)) 0
-          (length upstream),
+      length-map-range_with_len (λ i. where_data (get_or cells i None) (get_or totals i 0 - 1)) 0
+          (length totals),
     ))
 
 pub exits_size : (b : Bounds) (cells : List (Option ℕ)) (ends : List ℕ) →

@@ -1,18 +1,17 @@
 -- The lists made for a tile, of codes, links, sums and ends of paths, are the tile's flow.
-use Rattle.std.proofs.Common.{◌≡◌, ℕ, ◌+◌, ◌*◌, ◌^◌, ◌<◌, ◌≤◌, inl, inr, List, length, get_or, Option, None, Some, is_some, MatchOption, cond, sym, ap, subst, refl, ◌∙◌, arith}
-use Rattle.std.proofs.Math.Nat.{mul-le-mul}
+use Rattle.std.proofs.Common.{◌≡◌, ℕ, ◌-◌, ◌*◌, ◌^◌, ◌<◌, ◌≤◌, inl, inr, List, length, get_or, Option, None, Some, is_some, MatchOption, cond, sym, ap, subst, refl, ◌∙◌, arith}
 use Rattle.std.proofs.lemmas.Bool.{cond-true}
 use Rattle.std.proofs.Math.ListN.{length-map}
 use Rattle.std.proofs.lemmas.List.{get_or-map}
 use Rattle.std.proofs.lemmas.List.FromFn.{get_or-map-range_with_len, length-map-range_with_len}
 use Rattle.terrain.specs.declared.place.Place.{Place}
 use Rattle.tiles.specs.declared.bounds.Bounds.{Bounds}
-use Rattle.tiles.specs.Cutting.{Cutting, IsCutting, longest_axis, View, IsView, AreBounds, IsInBounds, bounds_of, tile_count, place_in, index_in, entry_in}
+use Rattle.tiles.specs.Cutting.{Cutting, IsCutting, View, IsView, AreBounds, IsInBounds, bounds_of, tile_count, place_in, index_in, entry_in}
 use Rattle.tiles.proofs.Cut.{places_from_value, in_bounds, bounds_inside, in_bounds_from}
 use Rattle.tiles.proofs.TileOrder.{place_in_tile, index_in-place_in, index_in_below, place_in-index_in, entry_in-inside}
 use Rattle.drainage.specs.Following.{Directed, code_at}
 use Rattle.drainage.specs.Drained.{AllFlowEnds}
-use Rattle.flow.specs.Streams.{AreStreams, AreUpstream, AreEnds, end_of, total}
+use Rattle.flow.specs.Streams.{AreStreams, AreSums, AreEnds, end_of, total}
 use Rattle.flow.specs.TileFlow.{Flow, directed_by, through_in, through_of, IsExitOf, IsFlow, IsTileExits, IsTileCounts}
 use Rattle.flow.specs.TileLinks.{link_by, AreTileCodes, EndsInLargestGrid, links_by, weights_by, where_data, through_list, ends_by, rim_ends_by, exits_by, flow_by, AreFlowLists}
 use Rattle.flow.proofs.Totals.{total_is}
@@ -20,6 +19,7 @@ use Rattle.flow.proofs.Reaching.{IsEnding, ending_of}
 use Rattle.flow.proofs.DrainedCells.{all_drained_inside, drained_inside_few, through_is as drained_inside_through}
 use Rattle.flow.proofs.Coded.{IsCoded, cases_coded}
 use Rattle.flow.proofs.InTile.{AreTileLinks, AreTileWeights, IsPiece, tile_streams, exit_is}
+use Rattle.flow.proofs.Moved.{few_cells}
 use Rattle.flow.proofs.TileTotals.{own_totals}
 
 pub bounds_end_in_grid : (t : Cutting) (b : Bounds) → IsCutting t → AreBounds t b →
@@ -53,17 +53,9 @@ ends_are links = record {
   each = λ i h. get_or-map-range_with_len (end_of links) 0 (length links) i i 0 h (omega arith);
 }
 
-few_cells : (b : Bounds) → b.top + b.rows ≤ longest_axis → b.left + b.cols ≤ longest_axis →
-    b.rows * b.cols ≤ 2 ^ 24
-few_cells b rows cols =
-    let r : b.rows ≤ 4096 = omega (arith, rows) in
-    let k : b.cols ≤ 4096 = omega (arith, cols) in
-    let most : b.rows * b.cols ≤ 4096 * 4096 = mul-le-mul r k in
-    omega arith
-
 -- In the lists of one flow each cell has a link, and `ends_by` lists the ends of paths.
-module _ (b : Bounds) (cells : List (Option ℕ)) (links upstream rim_ends : List ℕ)
-    (s : AreFlowLists b cells links upstream rim_ends) where
+module _ (b : Bounds) (cells : List (Option ℕ)) (links totals rim_ends : List ℕ)
+    (s : AreFlowLists b cells links totals rim_ends) where
   pub as_many_links : length links ≡ length cells
   as_many_links = ap length s.linked ∙ length-map-range_with_len (λ i.
       link_by b i (get_or cells i None)) 0 (b.rows * b.cols) ∙ sym s.lawful.codes_size
@@ -72,7 +64,7 @@ module _ (b : Bounds) (cells : List (Option ℕ)) (links upstream rim_ends : Lis
   end_listed i h = sym ((ends_are links).each i (omega (arith, h, as_many_links)))
 
   -- Ends of paths along the links of a flow's codes are ends of paths along its list of links.
-  pub ends_seen : (f : Flow) → flow_by b cells upstream (ends_by links) ≡ f → (ends : List ℕ) →
+  pub ends_seen : (f : Flow) → flow_by b cells totals (ends_by links) ≡ f → (ends : List ℕ) →
       AreEnds (links_by f.bounds f.codes) ends → AreEnds links ends
   ends_seen f seen ends are =
       subst (λ (l : List ℕ). AreEnds l ends) (sym s.linked)
@@ -170,30 +162,28 @@ module _ (v : View (Option ℕ)) (b : Bounds) (cells : List (Option ℕ)) (links
   code_is p h = s.codes.each (index_in b p) (index_in_below b p h)
       ∙ ap (code_at (directed_by v)) (place_in-index_in b p h)
 
-  module _ (upstream : List ℕ) (up : AreUpstream links weights upstream) where
-    pub upstream_size : length upstream ≡ length cells
-    upstream_size = up.size ∙ sizes
+  module _ (totals : List ℕ) (summed : AreSums links weights totals) where
+    totals_size : length totals ≡ length cells
+    totals_size = summed.size ∙ sizes
 
-    pub through_is : (p : Place) → IsInBounds b p → entry_in b (through_list cells upstream) p
-        ≡ where_data (code_at (directed_by v) p) (get_or upstream (index_in b p) 0)
+    through_is : (p : Place) → IsInBounds b p → entry_in b (through_list cells totals) p
+        ≡ where_data (code_at (directed_by v) p) (get_or totals (index_in b p) 0 - 1)
     through_is p h =
-        entry_in-inside b (through_list cells upstream) p h
+        entry_in-inside b (through_list cells totals) p h
         ∙ get_or-map-range_with_len (λ i.
-        where_data (get_or cells i None) (get_or upstream i 0)) 0 (length upstream) (index_in b p)
-        (index_in b p) None (omega (arith, in_cells p h, upstream_size)) (omega arith)
-        ∙ ap (λ o. where_data o (get_or upstream (index_in b p) 0)) (code_is p h)
+        where_data (get_or cells i None) (get_or totals i 0 - 1)) 0 (length totals) (index_in b p)
+        (index_in b p) None (omega (arith, in_cells p h, totals_size)) (omega arith)
+        ∙ ap (λ o. where_data o (get_or totals (index_in b p) 0 - 1)) (code_is p h)
 
-    pub count_of : (p : Place) → IsInBounds b p → IsCoded (directed_by v) p →
-        get_or upstream (index_in b p) 0 ≡ through_of (directed_by v) v.cutting p
+    count_of : (p : Place) → IsInBounds b p → IsCoded (directed_by v) p →
+        get_or totals (index_in b p) 0 - 1 ≡ through_of (directed_by v) v.cutting p
     count_of p h is =
         let at = place_in-index_in b p h in
         let i : index_in b p < length links = omega (arith, in_cells p h, sizes) in
         let there = subst (λ (q : Place). IsCoded (directed_by v) q) (sym at) is in
         omega (
           arith,
-          weighs.each (index_in b p) (index_in_below b p h),
-          cond-true {A = ℕ} _ 1 0 (ap (λ (o : Option ℕ). is_some o) there.is),
-          up.each (index_in b p) i,
+          summed.each (index_in b p) i,
           total_drained_inside (index_in b p) i,
           drained_inside_through (directed_by v) ending v.cutting (place_in b (index_in b p)) there,
         )
@@ -220,8 +210,8 @@ module _ (v : View (Option ℕ)) (b : Bounds) (cells : List (Option ℕ)) (links
         (subst (λ n. IsExitOf (directed_by v) v.cutting (place_in b (index_in b p)) (place_in b n))
         (sym (last.each (index_in b p) i)) e)
 
-    pub flow_lawful : (upstream : List ℕ) → IsFlow (flow_by b cells upstream ends)
-    flow_lawful upstream =
+    pub flow_lawful : (totals : List ℕ) → IsFlow (flow_by b cells totals ends)
+    flow_lawful totals =
         let small = bounds_end_in_grid v.cutting b s.lawful.cutting s.inside in
         record {
           some_col = small.some_col;
@@ -232,11 +222,11 @@ module _ (v : View (Option ℕ)) (b : Bounds) (cells : List (Option ℕ)) (links
               (place_in b (get_or ends i 0))) 0 (length cells) ∙ s.codes.size;
         }
 
-    pub exits_are : (upstream : List ℕ) →
-        IsTileExits (directed_by v) v.cutting v.tile (flow_by b cells upstream ends)
-    exits_are upstream = record {
+    pub exits_are : (totals : List ℕ) →
+        IsTileExits (directed_by v) v.cutting v.tile (flow_by b cells totals ends)
+    exits_are totals = record {
       bounds = s.bounds;
-      lawful = flow_lawful upstream;
+      lawful = flow_lawful totals;
       same_codes =
           λ p i. (let h = (piece.places p).0 i in entry_in-inside b cells p h ∙ code_is p h);
       each = λ p i. (let h = (piece.places p).0 i in
@@ -252,28 +242,28 @@ module _ (v : View (Option ℕ)) (b : Bounds) (cells : List (Option ℕ)) (links
           ]);
     }
 
-  pub lists_are : (upstream rim_ends : List ℕ) → rim_ends ≡ rim_ends_by b links →
-      AreFlowLists b cells links upstream rim_ends
-  lists_are upstream rim_ends rim = record {
+  pub lists_are : (totals rim_ends : List ℕ) → rim_ends ≡ rim_ends_by b links →
+      AreFlowLists b cells links totals rim_ends
+  lists_are totals rim_ends rim = record {
     linked = s.made;
-    lawful = flow_lawful (ends_by links) (ends_are links) upstream;
+    lawful = flow_lawful (ends_by links) (ends_are links) totals;
     streams = streams;
     rim = rim;
   }
 
-  pub counts_are : (upstream : List ℕ) → AreUpstream links weights upstream →
-      (f : Flow) → f.bounds ≡ b → f.through ≡ through_list cells upstream →
+  pub counts_are : (totals : List ℕ) → AreSums links weights totals →
+      (f : Flow) → f.bounds ≡ b → f.through ≡ through_list cells totals →
       IsTileCounts (directed_by v) v.cutting v.tile f
-  counts_are upstream up f same through = record {
+  counts_are totals summed f same through = record {
     size = ap length through ∙ length-map-range_with_len (λ i. where_data (get_or cells i None)
-        (get_or upstream i 0)) 0 (length upstream) ∙ upstream_size upstream up ∙ s.codes.size
+        (get_or totals i 0 - 1)) 0 (length totals) ∙ totals_size totals summed ∙ s.codes.size
         ∙ sym (ap (λ (z : Bounds). z.rows * z.cols) same);
     each = λ p i. (let h = (piece.places p).0 i in
-        let entry : through_in f p ≡ entry_in b (through_list cells upstream) p =
+        let entry : through_in f p ≡ entry_in b (through_list cells totals) p =
         ap (λ (z : Bounds). entry_in z f.through p) same
         ∙ ap (λ (l : List (Option ℕ)). entry_in b l p) through in
-        match_data (code_at (directed_by v) p) _ _ _ (entry ∙ through_is upstream up p h)
-        (λ code is. count_of upstream up p h (record { code = code; is = is })));
+        match_data (code_at (directed_by v) p) _ _ _ (entry ∙ through_is totals summed p h)
+        (λ code is. count_of totals summed p h (record { code = code; is = is })));
   }
 
 pub codes_from : (d : Directed) (t : Cutting) (tile : ℕ) (f : Flow) → IsCutting t →
@@ -294,18 +284,18 @@ codes_from d t tile f cutting below right = record {
 -- If the flow made of codes and ends has the exits of a view's tile, then the codes, their links
 -- and their weights are those of the tile.
 pub lists_seen : (v : View (Option ℕ)) (b : Bounds) (cells : List (Option ℕ))
-    (upstream ends links : List ℕ) (f : Flow) → flow_by b cells upstream ends ≡ f →
+    (totals ends links : List ℕ) (f : Flow) → flow_by b cells totals ends ≡ f →
     IsTileExits (directed_by v) v.cutting v.tile f →
     AllFlowEnds (directed_by v) → IsView v → links ≡ links_by b cells →
     AreLists v b cells links (weights_by cells)
-lists_seen v b cells upstream ends links f seen are flow_ends lawful made =
+lists_seen v b cells totals ends links f seen are flow_ends lawful made =
     let right =
     subst (λ (z : Flow). IsTileExits (directed_by v) v.cutting v.tile z) (sym seen) are in
     lists_made v b cells cells links flow_ends right.bounds
     (subst (λ (z : Bounds). AreBounds v.cutting z) (sym right.bounds)
     (bounds_inside v.cutting v.tile lawful.cutting lawful.tile)) lawful
     (codes_from (directed_by v) v.cutting v.tile
-    (flow_by b cells upstream ends) lawful.cutting lawful.tile right) refl made
+    (flow_by b cells totals ends) lawful.cutting lawful.tile right) refl made
 
 -- Replacing the counts of a flow keeps its exits.
 pub exits_kept : (d : Directed) (t : Cutting) (tile : ℕ) (f : Flow) (through : List (Option ℕ)) →

@@ -2,7 +2,7 @@
 -- below n, or of all, exactly if `list_any` or `list_all` says so. The list of f 0 to f n is that
 -- of f's values at the numbers below n, with f n appended.
 use borrow.Author.Count.{below_more}
-use Rattle.std.proofs.Common.{◌≡◌, ℕ, zero, suc, ◌+◌, ◌*◌, ◌≤◌, List, length, map, sym, ap, refl, ◌∙◌, arith, add-one, zero-mul, ◌<◌, Bool, true, [], ◌∷◌, ◌++◌, get_or}
+use Rattle.std.proofs.Common.{◌≡◌, ℕ, zero, suc, ◌+◌, ◌*◌, ◌≤◌, List, length, map, sym, ap, subst, refl, ◌∙◌, arith, add-one, zero-mul, ◌<◌, Bool, true, [], ◌∷◌, ◌++◌, get_or}
 use Rattle.std.proofs.lemmas.List.{length-append, get_or_append_left, get_or_push}
 use Rattle.std.proofs.lemmas.List.Sums.{sum_by-append, AllPass-from_list_all, list_all-from_AllPass}
 use Rattle.std.proofs.lemmas.List.FromFn.{sum_by-map-range_with_len_more, length-range_with_len, get_or-range_with_len, map-range_with_len_more}
@@ -102,13 +102,13 @@ pub mapped_all : {X : Type 0} (f : ℕ → X) (n m : ℕ) (xs : List X) →
     xs ≡ map f (range_with_len 0 n) → n ≡ m → xs ≡ map f (range_with_len 0 m)
 mapped_all f n m xs made all = made ∙ ap (λ k. map f (range_with_len 0 k)) all
 
--- If xs has the first n values of f, then xs with f n appended has the first n + 1.
-pub each_pushed : (f : ℕ → ℕ) (n : ℕ) (xs ys : List ℕ) (x : ℕ) → length xs ≡ n →
-    ((k : ℕ) → k < length xs → get_or xs k 0 ≡ f k) → x ≡ f n → ys ≡ xs ++ x ∷ [] → (k : ℕ) →
-    k < length ys → get_or ys k 0 ≡ f k
-each_pushed f n xs ys x size each here pushed k h =
-    below_more (λ i. get_or ys i 0 ≡ f i) n
-    (λ i below. ap (λ l. get_or l i 0) pushed ∙ get_or_append_left xs (x ∷ []) 0 i
-    (omega (arith, below, size)) ∙ each i (omega (arith, below, size)))
-    (ap (λ l. get_or l n 0) pushed ∙ get_or_push xs x 0 n size
-    ∙ here) k (omega (arith, h, ap length pushed, length-append xs (x ∷ []), size))
+-- If P holds of the n entries of xs, and of x at n, it holds of those of xs with x appended.
+pub each_pushed : (P : ℕ → ℕ → Type 0) (n : ℕ) (xs ys : List ℕ) (x : ℕ) → length xs ≡ n →
+    ((k : ℕ) → k < length xs → P k (get_or xs k 0)) → P n x → ys ≡ xs ++ x ∷ [] → (k : ℕ) →
+    k < length ys → P k (get_or ys k 0)
+each_pushed P n xs ys x size each here pushed k h =
+    subst (λ (l : List ℕ). P k (get_or l k 0)) (sym pushed) (below_more
+    (λ i. P i (get_or (xs ++ x ∷ []) i 0)) n
+    (λ i below. subst (P i) (sym (get_or_append_left xs (x ∷ []) 0 i (omega (arith, below, size))))
+    (each i (omega (arith, below, size)))) (subst (P n) (sym (get_or_push xs x 0 n size)) here) k
+    (omega (arith, h, ap length pushed, length-append xs (x ∷ []), size)))

@@ -3,17 +3,15 @@
 -- the end of an exit's path along links gives the exit's outlet (`AreOutlets`).
 use Rattle.std.proofs.Common.{◌≡◌, ◌≢◌, ℕ, zero, suc, ◌+◌, ◌*◌, ◌/◌, ◌%◌, ◌<◌, ◌⊎◌, inl, inr, true, false, cond, eqb, List, length, get_or, Option, None, Some, IfSome, is_some, slice_get, unwrap_or, sym, ap, subst, refl, ◌∙◌, arith}
 use Rattle.std.specs.Option.{option_and_then}
-use Rattle.std.proofs.lemmas.Bool.{cases_eq, cases_lt, cases_Bool, eqb-true, cond-true, cond-false, false_from_ne_true, false≢true}
-use Rattle.std.proofs.lemmas.List.{get_or_default, get_or_past}
+use Rattle.std.proofs.lemmas.Bool.{cases_eq, cases_Bool, eqb-true, cond-true, cond-false, false_from_ne_true, false≢true}
 use Rattle.std.proofs.lemmas.List.FromFn.{get_or-map-range_with_len, length-map-range_with_len}
 use Rattle.std.proofs.lemmas.Option.{slice_get_cases, slice_get_read, slice_get_within, MatchOption-at_none, MatchOption-at_some, none-some, same_Some}
-use Rattle.terrain.specs.Neighbours.{Touches, is_place}
-use Rattle.terrain.specs.Ways.{place_toward, place_on, way_of, ways_from}
+use Rattle.terrain.specs.Neighbours.{is_place}
+use Rattle.terrain.specs.Ways.{place_toward}
 use Rattle.terrain.specs.declared.place.Place.{Place}
 use Rattle.tiles.specs.declared.bounds.Bounds.{Bounds}
 use Rattle.tiles.specs.Cutting.{Cutting, IsWithin, IsInTile, IsInBounds, tile_count, bounds_of, tile_of_place, is_in_bounds, entry_in}
 use Rattle.tiles.proofs.Cut.{in_bounds, in_tile, tile_of_place_below, in_bounds_parts, in_bounds_from}
-use Rattle.terrain.proofs.EightWays.{Touches-from_ways}
 use Rattle.drainage.specs.Following.{Directed, code_at, next, follow, moves, last_of, IsOutlet}
 use Rattle.terrain.proofs.Listed.{is_place_from, place_is}
 use Rattle.flow.specs.Streams.{AreStreams, AreEnds, next_node, node_after, end_of}
@@ -22,6 +20,7 @@ use Rattle.flow.specs.Whole.{is_outlet_code}
 use Rattle.tiles.specs.RimNumbers.{stride, side_number, rim_number_count, rim_number, rim_place}
 use Rattle.flow.specs.RimGraph.{code_in, AreFlowsOf, exit_by, side_cell, next_in, target_in, target_by, targets_by, next_exit_in, next_exit_by, number_or, rim_link, rim_links_by, rim_outlet, rim_outlets_by, outlet_by, AreOutlets}
 use Rattle.flow.proofs.Ranges.{every_in_range}
+use Rattle.flow.proofs.Moved.{next_touches}
 use Rattle.flow.proofs.Ending.{IsStop, streams_from, node_after-first, node_after-inside}
 use Rattle.terrain.proofs.Options.{cases_option}
 use Rattle.flow.proofs.Coded.{IsCoded, cases_coded, coded_along, coded_inside, coded_from_some, none_stays, outlet_stays, follow_stays, follow_more, follow_first, StopsAt, stops_sooner, cycle_stops}
@@ -42,19 +41,6 @@ pub read_of_tile : {X : Type 0} (read : Flow → Option X) (t : Cutting) (flows 
 read_of_tile read t flows p tile flow x count at below is value =
     value ∙ ap (option_and_then read) (sym (slice_get_read flows (length flows) tile flow refl
     (omega (arith, below, count)) is) ∙ ap (slice_get flows) at)
-
-toward_touches : (p q : Place) (code : ℕ) → place_toward code p ≡ Some q → Touches p q
-toward_touches p q code e = elim (cases_option (way_of code)) [
-  | inl none ↦ absurd (none-some q
-      (sym (ap (λ (o : Option ℕ). option_and_then (λ way. place_on way p) o) none) ∙ e))
-  | inr way ↦ (let at : get_or (ways_from p) way.0 None ≡ Some q =
-      sym (ap (λ (o : Option ℕ). option_and_then (λ way. place_on way p) o) way.1) ∙ e in
-      elim (cases_lt way.0 8) [
-        | inl below ↦ (Touches-from_ways p q
-            (way.0, below, get_or_default (ways_from p) way.0 (Some q) None below ∙ at)).0
-        | inr far ↦ absurd (none-some q (sym (get_or_past (ways_from p) way.0 None far) ∙ at))
-      ])
-]
 
 -- On the rim, a place that is no outlet has the outlet listed for its rim number, if any.
 pub outlet_listed : (t : Cutting) (flows : List Flow) (listed : List (Option Place)) (p : Place) →
@@ -139,23 +125,12 @@ module _ (d : Directed) (t : Cutting) (flows : List Flow) (s : AreFlowsOf d t fl
     pub coded : IsCoded d p
     pub apart : tile_of_place t (next d p) ≢ tile_of_place t p
 
-  pub touching : (p : Place) → LeavesTile p → Touches p (next d p)
-  touching p c =
-      let at : next d p ≡ unwrap_or (place_toward c.coded.code p) p = ap (λ (o : Option ℕ).
-      unwrap_or (option_and_then (λ code. place_toward code p) o) p) c.coded.is in
-      elim (cases_option (place_toward c.coded.code p)) [
-        | inl none ↦ absurd
-            (c.apart (ap (tile_of_place t) (at ∙ ap (λ (o : Option Place). unwrap_or o p) none)))
-        | inr q ↦ subst (λ (z : Place). Touches p z) (sym (at
-            ∙ ap (λ (o : Option Place). unwrap_or o p) q.1)) (toward_touches p q.0 c.coded.code q.1)
-      ]
-
   on_side : (p : Place) → LeavesTile p → IsSide (bounds_of t (tile_of_place t p)) p
   on_side p c a b e =
       let w = within_of p c.coded in
       let i = in_bounds t (tile_of_place t p) p s.cutting (w, refl) in
       let below = tile_of_place_below t p s.cutting w in
-      let touch = touching p c in
+      let touch = next_touches p (code_at d p) in
       elim (cases_eq (p.col + 1)
       ((bounds_of t (tile_of_place t p)).left + (bounds_of t (tile_of_place t p)).cols)) [
         | inl y ↦ y

@@ -10,7 +10,7 @@ use Rattle.terrain.proofs.Listed.{is_place_from, place_is}
 use Rattle.terrain.specs.Neighbours.{is_place}
 use Rattle.flow.specs.Counts.{drains_through}
 use Rattle.tile_jobs.specs.Sums.{sum_below}
-use Rattle.flow.specs.Streams.{AreUpstream}
+use Rattle.flow.specs.Streams.{AreSums}
 use Rattle.flow.specs.TileFlow.{Flow, AreTileCounts, inflow_of}
 use Rattle.tiles.specs.RimNumbers.{rim_number_count, rim_number, rim_place}
 use Rattle.flow.specs.RimGraph.{AreFlowsOf, target_by, targets_by, rim_links_by}
@@ -19,9 +19,10 @@ use Rattle.tile_jobs.proofs.Sums.{sum_below-same, sum_below-none, exchange, one_
 use Rattle.terrain.proofs.Options.{cases_option}
 use Rattle.flow.proofs.Coded.{IsCoded, coded_along, coded_from_some}
 use Rattle.tiles.proofs.RimNumbered.{IsSide, number_below, number_back}
-use Rattle.flow.proofs.RimFlows.{LeavesTile, within_of, touching, back, target_on, target_from, to_below, links_size, target_listed}
+use Rattle.flow.proofs.RimFlows.{LeavesTile, within_of, back, target_on, target_from, to_below, links_size, target_listed}
 use Rattle.flow.proofs.Reaching.{drains_at, drains_from, enters_from_one, one_move, enters, enters_from, enters_at}
 use Rattle.flow.proofs.DrainedCells.{cell, drained, all_drained, entered, entered_few, inflow_sum, counted_on, counted_off, counted_none}
+use Rattle.flow.proofs.Moved.{next_touches}
 use Rattle.flow.proofs.RimTotals.{ending, total_drained}
 
 pub sent-none : (t : Cutting) (k : ℕ) (o : Option Place) → sent_to t k o 0 ≡ 0
@@ -42,7 +43,7 @@ module _ (d : Directed) (t : Cutting) (flows : List Flow) (s : AreFlowsOf d t fl
       let w = within_of d t flows s (next d p) coded in
       let i = in_bounds t (tile_of_place t (next d p)) (next d p) s.cutting (w, refl) in
       let below = tile_of_place_below t (next d p) s.cutting w in
-      let touch = touching d t flows s p c in
+      let touch = next_touches p (code_at d p) in
       elim (cases_eq ((next d p).col + 1) ((bounds_of t (tile_of_place t (next d p))).left
       + (bounds_of t (tile_of_place t (next d p))).cols)) [
         | inl y ↦ y
@@ -185,20 +186,20 @@ module _ (d : Directed) (t : Cutting) (flows : List Flow) (s : AreFlowsOf d t fl
             ]
       ])
 
-  module _ (links weights upstream : List ℕ) (targets : List (Option Place))
+  module _ (links weights totals : List ℕ) (targets : List (Option Place))
       (asked : targets ≡ targets_by t flows) (made : links ≡ rim_links_by t flows)
-      (weighed : weights ≡ rim_weights_by t flows) (up : AreUpstream links weights upstream) where
+      (weighed : weights ≡ rim_weights_by t flows) (summed : AreSums links weights totals) where
     -- The amount that rim number i sends to the rim number of its target is the number of cells
     -- whose flow paths contain the cell of i.
-    sends : (k i : ℕ) → i < rim_number_count t → entering t targets weights upstream k i
+    sends : (k i : ℕ) → i < rim_number_count t → entering t targets totals k i
         ≡ sent_to t k (target_by t flows i) (all_drained d (rim_place t i))
     sends k i h =
-        let at = up.each i (omega (arith, h, links_size d t flows s links made)) in
-        ap (λ (o : Option Place). sent_to t k o (get_or upstream i 0 + get_or weights i 0))
+        let at = summed.each i (omega (arith, h, links_size d t flows s links made)) in
+        ap (λ (o : Option Place). sent_to t k o (get_or totals i 0))
         (target_listed t flows targets asked i h)
         ∙ elim (cases_option (target_by t flows i)) [
           | inl none ↦ ap (λ (o : Option Place).
-              sent_to t k o (get_or upstream i 0 + get_or weights i 0)) none
+              sent_to t k o (get_or totals i 0)) none
               ∙ sym (ap (λ (o : Option Place). sent_to t k o (all_drained d (rim_place t i))) none)
           | inr q ↦ ap (sent_to t k (target_by t flows i)) (at
               ∙ total_drained d t flows s counts links made weights weighed i q.0 h q.1)
@@ -206,10 +207,10 @@ module _ (d : Directed) (t : Cutting) (flows : List Flow) (s : AreFlowsOf d t fl
 
     -- All amounts sent to a place on the rim add up to its inflow.
     entering_is : (p : Place) → rim_place t (rim_number t p) ≡ p →
-        sum_below (entering t targets weights upstream (rim_number t p)) (rim_number_count t)
+        sum_below (entering t targets totals (rim_number t p)) (rim_number_count t)
         ≡ sum_below (λ c. entered d t p (cell d c)) (d.rows * d.cols)
     entering_is p on =
-        sum_below-same (entering t targets weights upstream (rim_number t p)) (λ i.
+        sum_below-same (entering t targets totals (rim_number t p)) (λ i.
         sum_below (λ c. piece p c i) (d.rows * d.cols)) (rim_number_count t)
         (λ i h. sends (rim_number t p) i h ∙ sent-sum t (rim_number t p) (target_by t flows i)
         (λ c. drained d (rim_place t i) (cell d c)) (d.rows * d.cols))
@@ -218,12 +219,12 @@ module _ (d : Directed) (t : Cutting) (flows : List Flow) (s : AreFlowsOf d t fl
         entered d t p (cell d c)) (d.rows * d.cols) (λ c h. pieces_are p on c)
 
     pub entering_few : (k : ℕ) →
-        sum_below (entering t targets weights upstream k) (rim_number_count t) ≤ 16777216
+        sum_below (entering t targets totals k) (rim_number_count t) ≤ 16777216
     entering_few k =
         elim (cases_eq (rim_number t (rim_place t k)) k) [
           | inl e ↦
               let same = ap (λ n.
-              sum_below (entering t targets weights upstream n) (rim_number_count t)) (sym e) in
+              sum_below (entering t targets totals n) (rim_number_count t)) (sym e) in
               omega (
                 arith,
                 same,
@@ -233,28 +234,28 @@ module _ (d : Directed) (t : Cutting) (flows : List Flow) (s : AreFlowsOf d t fl
           | inr ne ↦
               omega (
                 arith,
-                sum_below-none (entering t targets weights upstream k) (rim_number_count t)
+                sum_below-none (entering t targets totals k) (rim_number_count t)
                     (λ i h. ap
-                    (λ (o : Option Place). sent_to t k o (get_or upstream i 0 + get_or weights i 0))
+                    (λ (o : Option Place). sent_to t k o (get_or totals i 0))
                     (target_listed t flows targets asked i h)
                     ∙ elim (cases_option (target_by t flows i)) [
                       | inl none ↦ ap (λ (o : Option Place).
-                          sent_to t k o (get_or upstream i 0 + get_or weights i 0)) none
+                          sent_to t k o (get_or totals i 0)) none
                       | inr q ↦
                           let x = target_from d t flows s i q.0 q.1 in
                           let back_at : rim_place t (rim_number t q.0) ≡ q.0 = ap (λ z. rim_place t
                           (rim_number t z)) x.is ∙ entry_back (rim_place t i) x.crosses
                           ∙ sym x.is in
                           ap (λ (o : Option Place).
-                          sent_to t k o (get_or upstream i 0 + get_or weights i 0)) q.1
-                          ∙ cond-false {A = ℕ} _ (get_or upstream i 0 + get_or weights i 0) 0
+                          sent_to t k o (get_or totals i 0)) q.1
+                          ∙ cond-false {A = ℕ} _ (get_or totals i 0) 0
                           (ne_eqb _ _ (λ e. ne (ap (λ n. rim_number t (rim_place t n)) (sym e)
                           ∙ ap (rim_number t) back_at ∙ e)))
                     ]),
               )
         ]
 
-    module _ (listed : List ℕ) (are : AreEntering t targets weights upstream listed) where
+    module _ (listed : List ℕ) (are : AreEntering t targets totals listed) where
       pub inflow_at : (p : Place) → IsWithin t p → inflow_by t listed p ≡ inflow_of d t p
       inflow_at p w = elim (cases_Bool (is_place (rim_place t (rim_number t p)) p)) [
         | inr f ↦ cond-false {A = ℕ} _ (get_or listed (rim_number t p) 0) 0 f

@@ -1,13 +1,13 @@
--- As nodes send sums downstream, each node's sum stays the amount that its donors, the other nodes
--- linked to it, have sent. Its entry in `waits` counts the donors that have not sent, and becomes
--- `sent_entry` when the node itself sends. If no entry is 0, all are `sent_entry`.
+-- As nodes send totals downstream, each node's total stays its weight and what its donors, the other
+-- nodes linked to it, have sent. Its entry in `waits` counts the donors that have not sent, and
+-- becomes `sent_entry` when the node itself sends. If no entry is 0, all are `sent_entry`.
 use Rattle.std.proofs.Common.{◌≡◌, ◌≢◌, ℕ, ◌+◌, ◌<◌, Bool, true, false, not, ◌&&◌, cond, eqb, inl, inr, List, length, get_or, set, sym, ap, refl, ◌∙◌, arith, ◌^◌, ◌≤◌, ◌-◌}
-use Rattle.std.proofs.lemmas.Bool.{cases_eq, cases_Bool, eq-eqb, ne_eqb, eqb-true, cond-true, cond-false, and_left, and_right, and_parts, not-true, not_from_true, not_from_false, true_from_ne_false, false≢true, false_from_ne_true}
+use Rattle.std.proofs.lemmas.Bool.{cases_eq, cases_Bool, eq-eqb, ne_eqb, cond-true, cond-false, and_left, and_right, and_parts, not-true, not_from_true, not_from_false, true_from_ne_false, false≢true, false_from_ne_true}
 use Rattle.std.proofs.lemmas.List.{get_or-set_same, get_or-set_other}
 use Rattle.std.proofs.Math.ListN.{length-set}
 use Rattle.tile_jobs.specs.Sums.{sum_below}
-use Rattle.flow.specs.Streams.{next_node, leads_to, AreStreams, AreUpstream, total}
-use Rattle.flow.specs.Sending.{donor, sent_entry, has_sent, waiting, sent_on, IsSending, AreZeros, AreDonorCounts}
+use Rattle.flow.specs.Streams.{next_node, leads_to, AreStreams, AreSums, total}
+use Rattle.flow.specs.Sending.{donor, sent_entry, has_sent, waiting, sent_on, IsSending, AreDonorCounts}
 use Rattle.flow.proofs.Totals.{leads_from, each_downstream, totals_le, totals_are, total_is, leads_self, leads_end}
 use Rattle.tile_jobs.proofs.Sums.{bit_le, sum_below-none, sum_below-few, sum_below-same, sum_below-le, sum_below-except, some_term, term-le-sum_below}
 
@@ -15,42 +15,41 @@ pub and_on : (a b : Bool) → b ≡ true → (a && b) ≡ a
 and_on true b t = t
 and_on false b t = refl
 
-pub waiting-open : (links waits : List ℕ) (i j : ℕ) → has_sent waits j ≡ false →
+waiting-open : (links waits : List ℕ) (i j : ℕ) → has_sent waits j ≡ false →
     waiting links waits i j ≡ donor links i j
 waiting-open links waits i j f = ap (λ x.
     cond {A = ℕ} x 1 0) (and_on (leads_to links j i) (not (has_sent waits j)) (not_from_false _ f))
 
-pub waiting-sent : (links waits : List ℕ) (i j : ℕ) → has_sent waits j ≡ true →
+waiting-sent : (links waits : List ℕ) (i j : ℕ) → has_sent waits j ≡ true →
     waiting links waits i j ≡ 0
 waiting-sent links waits i j t = cond-false _ _ _ (and_right _ _ (not_from_true _ t))
 
-pub sent_on-open : (links weights waits upstream : List ℕ) (i j : ℕ) → has_sent waits j ≡ false →
-    sent_on links weights waits upstream i j ≡ 0
-sent_on-open links weights waits upstream i j f = cond-false _ _ _ (and_right _ _ f)
+sent_on-open : (links waits totals : List ℕ) (i j : ℕ) → has_sent waits j ≡ false →
+    sent_on links waits totals i j ≡ 0
+sent_on-open links waits totals i j f = cond-false _ _ _ (and_right _ _ f)
 
-pub sent_on-all : (links weights waits upstream : List ℕ) (i j : ℕ) → has_sent waits j ≡ true →
-    sent_on links weights waits upstream i j
-    ≡ cond {A = ℕ} (leads_to links j i) (get_or upstream j 0 + get_or weights j 0) 0
-sent_on-all links weights waits upstream i j t = ap (λ x. cond {A = ℕ} x
-    (get_or upstream j 0 + get_or weights j 0) 0) (and_on (leads_to links j i) (has_sent waits j) t)
+sent_on-all : (links waits totals : List ℕ) (i j : ℕ) → has_sent waits j ≡ true →
+    sent_on links waits totals i j ≡ cond {A = ℕ} (leads_to links j i) (get_or totals j 0) 0
+sent_on-all links waits totals i j t = ap (λ x. cond {A = ℕ} x (get_or totals j 0) 0)
+    (and_on (leads_to links j i) (has_sent waits j) t)
 
-pub awaited_from : (links waits : List ℕ) (i j : ℕ) → 0 < waiting links waits i j →
+awaited_from : (links waits : List ℕ) (i j : ℕ) → 0 < waiting links waits i j →
     (leads_to links j i ≡ true) × (has_sent waits j ≡ false)
 awaited_from links waits i j h = elim (cases_Bool (leads_to links j i && not (has_sent waits j))) [
   | inl y ↦ (let w = and_parts _ _ y in (w.0, not-true _ w.1))
   | inr n ↦ absurd (omega (arith, cond-false {A = ℕ} _ 1 0 n))
 ]
 
-pub open_from_count : (waits : List ℕ) (i : ℕ) → get_or waits i 0 < sent_entry →
+open_from_count : (waits : List ℕ) (i : ℕ) → get_or waits i 0 < sent_entry →
     has_sent waits i ≡ false
 open_from_count waits i l = ne_eqb _ _ (λ e. omega (arith, e))
 
 -- A node that is no end leads to its link and to no other node.
-pub leads_test : (links : List ℕ) (node i : ℕ) → next_node links node ≢ node →
-    leads_to links node i ≡ eqb (next_node links node) i
-leads_test links node i ne = elim (cases_Bool (eqb (next_node links node) i)) [
-  | inl y ↦ leads_from links node i (eqb-true _ _ y) (λ e. ne (eqb-true _ _ y ∙ sym e)) ∙ sym y
-  | inr n ↦ and_left _ _ n ∙ sym n
+pub leads_test : (links : List ℕ) (node next i : ℕ) → next ≡ next_node links node → next ≢ node →
+    leads_to links node i ≡ eqb next i
+leads_test links node next i is ne = elim (cases_eq next i) [
+  | inl e ↦ leads_from links node i (sym is ∙ e) (λ z. ne (e ∙ sym z)) ∙ sym (eq-eqb next i e)
+  | inr off ↦ and_left _ _ (ne_eqb _ _ (λ z. off (is ∙ z))) ∙ sym (ne_eqb next i off)
 ]
 
 -- Raising entry k by v adds v to entry k and nothing to any other.
@@ -71,36 +70,19 @@ added_at xs k v i h = elim (cases_eq k i) [
   )
 ]
 
--- Bounds on sums while nodes send; the state before any node has sent, and after all have.
+-- Bounds on totals while nodes send; the state before any node has sent, and after all have.
 
 part_le : (a b : Bool) (n : ℕ) → cond {A = ℕ} (a && b) n 0 ≤ cond {A = ℕ} a n 0
 part_le true true n = omega arith
 part_le true false n = omega arith
 part_le false b n = omega arith
 
--- A node's sum so far, plus its own weight, is at most its total.
-pub upstream_le : (links weights waits upstream : List ℕ) → AreStreams links →
-    IsSending links weights waits upstream →
-    (i : ℕ) → i < length links → get_or upstream i 0 + get_or weights i 0 ≤ total links weights i
-upstream_le links weights waits upstream streams s =
-    totals_le links streams (λ j. get_or weights j 0) (λ j. get_or upstream j 0
-    + get_or weights j 0) (total links weights)
-    (λ i h. omega (
-      arith,
-      s.sums i h,
-      sum_below-le (sent_on links weights waits upstream i) (λ j. cond {A = ℕ} (leads_to links j i)
-          (get_or upstream j 0 + get_or weights j 0) 0) (length links)
-          (λ j l. part_le (leads_to links j i) (has_sent waits j)
-          (get_or upstream j 0 + get_or weights j 0)),
-    ))
-    (λ i h. omega (arith, (totals_are links weights streams).each i h))
-
 -- If no entry of `waits` is 0, every node has sent.
-pub all_sent : (links weights waits upstream : List ℕ) → AreStreams links →
-    IsSending links weights waits upstream → ((i : ℕ) → i < length links → get_or waits i 0 ≢ 0) →
+all_sent : (links weights waits totals : List ℕ) → IsSending links weights waits totals →
+    ((i : ℕ) → i < length links → get_or waits i 0 ≢ 0) →
     (i : ℕ) → i < length links → has_sent waits i ≡ true
-all_sent links weights waits upstream streams s some =
-    each_downstream links streams (λ _ i. has_sent waits i ≡ true)
+all_sent links weights waits totals s some =
+    each_downstream links s.streams (λ _ i. has_sent waits i ≡ true)
     (λ _ i h before. true_from_ne_false _ (λ f.
     (let above : 0 < sum_below (waiting links waits i) (length links) =
     omega (arith, some i h, s.counts i h f) in
@@ -108,46 +90,33 @@ all_sent links weights waits upstream streams s some =
     let a = awaited_from links waits i j.0 j.2 in
     false≢true (sym a.1 ∙ before j.0 j.1 a.0))))
 
-pub upstream_from : (links weights waits upstream : List ℕ) → AreStreams links →
-    IsSending links weights waits upstream → ((i : ℕ) → i < length links → get_or waits i 0 ≢ 0) →
-    AreUpstream links weights upstream
-upstream_from links weights waits upstream streams s some = record {
-  size = s.upstream_size;
-  each = λ i h.
-      sym (total_is links weights (λ j. get_or upstream j 0 + get_or weights j 0) streams (record {
-        each = λ i h. omega (
-          arith,
-          s.sums i h,
-          sum_below-same (sent_on links weights waits upstream i) (λ j. cond {A = ℕ}
-              (leads_to links j i) (get_or upstream j 0 + get_or weights j 0) 0) (length links)
-              (λ j l. sent_on-all links weights waits upstream i j
-              (all_sent links weights waits upstream streams s some j l)),
-        );
-      }) i h);
+pub sums_from : (links weights waits totals : List ℕ) → IsSending links weights waits totals →
+    ((i : ℕ) → i < length links → get_or waits i 0 ≢ 0) → AreSums links weights totals
+sums_from links weights waits totals s some = record {
+  size = s.totals_size;
+  each = λ i h. sym (total_is links weights (λ j. get_or totals j 0) s.streams (record {
+    each = λ i h. omega (
+      arith,
+      s.sums i h,
+      sum_below-same (sent_on links waits totals i) (λ j. cond {A = ℕ} (leads_to links j i)
+          (get_or totals j 0) 0) (length links) (λ j l.
+          sent_on-all links waits totals i j (all_sent links weights waits totals s some j l)),
+    );
+  }) i h);
 }
 
-abbrev pub unsent_one : List ℕ → ℕ → ℕ
+abbrev unsent_one : List ℕ → ℕ → ℕ
 unsent_one waits i = cond {A = ℕ} (has_sent waits i) 0 1
 
 -- The number of nodes below n that have not sent.
 abbrev pub unsent : List ℕ → ℕ → ℕ
 unsent waits n = sum_below (unsent_one waits) n
 
-pub unsent_falls : (waits new : List ℕ) (n node : ℕ) → node < n → has_sent waits node ≡ false →
-    has_sent new node ≡ true →
-    ((j : ℕ) → j < n → j ≢ node → has_sent new j ≡ has_sent waits j) → unsent new n < unsent waits n
-unsent_falls waits new n node h f t same = omega (
-  arith,
-  sum_below-except (unsent_one new) (unsent_one waits) n node h (λ j l ne.
-      ap (λ b. cond {A = ℕ} b 0 1) (same j l ne)),
-  cond-false {A = ℕ} _ 0 1 f,
-  cond-true {A = ℕ} _ 0 1 t,
-)
-
-pub donors_begin : (links weights waits upstream : List ℕ) →
-    length links ≤ 2 ^ 30 → AreDonorCounts links waits → AreZeros (length links) upstream →
-    IsSending links weights waits upstream
-donors_begin links weights waits upstream few d none =
+pub donors_begin : (links weights waits : List ℕ) → AreStreams links → length links ≤ 2 ^ 30 →
+    length weights ≡ length links →
+    ((i : ℕ) → i < length links → total links weights i < 2 ^ 32) → AreDonorCounts links waits →
+    IsSending links weights waits weights
+donors_begin links weights waits streams few size fits d =
     let low : (i : ℕ) → i < length links → has_sent waits i ≡ false =
     λ i h. open_from_count waits i (omega (
       arith,
@@ -156,152 +125,180 @@ donors_begin links weights waits upstream few d none =
       sum_below-few (donor links i) (length links) (λ j l. bit_le (leads_to links j i)),
     )) in
     record {
+      streams = streams;
+      few = few;
+      fits = fits;
       waits_size = d.size;
-      upstream_size = none.size;
+      totals_size = size;
       counts = λ i h f. d.each i h ∙ sum_below-same (donor links i) (waiting links waits i)
           (length links) (λ j l. sym (waiting-open links waits i j (low j l)));
-      sums = λ i h. none.zeros i ∙ sym (sum_below-none (sent_on links weights waits upstream i)
-          (length links) (λ j l. sent_on-open links weights waits upstream i j (low j l)));
+      sums = λ i h. omega (
+        arith,
+        sum_below-none (sent_on links waits weights i) (length links)
+            (λ j l. sent_on-open links waits weights i j (low j l)),
+      );
       closed = λ i j h l on t. absurd (false≢true (sym (low i h) ∙ t));
     }
 
--- One node sends its sum and its weight.
+-- One node sends its total.
 
--- How `waits` and `upstream` change as `node` sends. If `node` is an end, it gets the entry of
--- a node that has sent, and nothing else changes.
-pub record MovesOn (links weights waits upstream new_waits new_upstream : List ℕ) (node : ℕ) :
-    Type 0 where
+-- How `waits` and `totals` change as `node` sends. If `node` is an end, it gets the entry of a node
+-- that has sent, and nothing else changes.
+record MovesOn (links waits totals new_waits new_totals : List ℕ) (node : ℕ) : Type 0 where
   pub waits_size : length new_waits ≡ length waits
-  pub upstream_size : length new_upstream ≡ length upstream
+  pub totals_size : length new_totals ≡ length totals
   pub sent : get_or new_waits node 0 ≡ sent_entry
   pub fewer : (i : ℕ) → i ≢ node → get_or new_waits i 0 + donor links i node ≡ get_or waits i 0
-  pub more : (i : ℕ) → get_or new_upstream i 0 ≡ get_or upstream i 0
-      + cond {A = ℕ} (leads_to links node i) (get_or upstream node 0 + get_or weights node 0) 0
+  pub more : (i : ℕ) → get_or new_totals i 0
+      ≡ get_or totals i 0 + cond {A = ℕ} (leads_to links node i) (get_or totals node 0) 0
 
-module _ (links weights waits upstream : List ℕ) (few : length links ≤ 2 ^ 30)
-    (s : IsSending links weights waits upstream) (node : ℕ) (inside : node < length links)
-    (ready : get_or waits node 0 ≡ 0) where
-  pub node_open : has_sent waits node ≡ false
-  node_open = open_from_count waits node (omega (arith, ready))
+module _ (links weights waits totals : List ℕ) (s : IsSending links weights waits totals) where
+  -- A node's total so far is at most its total.
+  so_far_le : (i : ℕ) → i < length links → get_or totals i 0 ≤ total links weights i
+  so_far_le = totals_le links s.streams (λ j. get_or weights j 0) (λ j. get_or totals j 0)
+      (total links weights)
+      (λ i h. omega (
+        arith,
+        s.sums i h,
+        sum_below-le (sent_on links waits totals i) (λ j. cond {A = ℕ} (leads_to links j i)
+            (get_or totals j 0) 0) (length links) (λ j l.
+            part_le (leads_to links j i) (has_sent waits j) (get_or totals j 0)),
+      ))
+      (λ i h. omega (arith, (totals_are links weights s.streams).each i h))
 
-  donors_sent : (j : ℕ) → j < length links → leads_to links j node ≡ true → has_sent waits j ≡ true
-  donors_sent j h on = elim (cases_Bool (has_sent waits j)) [
-    | inl t ↦ t
-    | inr f ↦ absurd (omega (
-      arith,
-      ready,
-      s.counts node inside node_open,
-      waiting-open links waits node j f,
-      cond-true {A = ℕ} _ 1 0 on,
-      term-le-sum_below (waiting links waits node) (length links) j h,
-    ))
-  ]
+  module _ (node : ℕ) (inside : node < length links) (ready : get_or waits node 0 ≡ 0) where
+    node_open : has_sent waits node ≡ false
+    node_open = open_from_count waits node (omega (arith, ready))
 
-  -- The node downstream has not sent.
-  next_open : (i : ℕ) → i < length links → leads_to links node i ≡ true → has_sent waits i ≡ false
-  next_open i h on =
-      false_from_ne_true _ (λ t. false≢true (sym node_open ∙ s.closed i node h inside on t))
-
-  pub next_waits : (i : ℕ) → i < length links → leads_to links node i ≡ true → 1 ≤ get_or waits i 0
-  next_waits i h on = omega (
-    arith,
-    s.counts i h (next_open i h on),
-    waiting-open links waits i node node_open,
-    cond-true {A = ℕ} _ 1 0 on,
-    term-le-sum_below (waiting links waits i) (length links) node inside,
-  )
-
-  next_few : (i : ℕ) → i < length links → leads_to links node i ≡ true →
-      get_or waits i 0 ≤ length links
-  next_few i h on = omega (
-    arith,
-    s.counts i h (next_open i h on),
-    sum_below-few (waiting links waits i) (length links) (λ j l.
-        bit_le (leads_to links j i && not (has_sent waits j))),
-  )
-
-  module _ (new_waits new_upstream : List ℕ)
-      (m : MovesOn links weights waits upstream new_waits new_upstream node) where
-    pub sent_now : has_sent new_waits node ≡ true
-    sent_now = eq-eqb _ _ m.sent
-
-    pub other_sent : (j : ℕ) → j < length links → j ≢ node → has_sent new_waits j ≡ has_sent waits j
-    other_sent j h ne = elim (cases_Bool (leads_to links node j)) [
-      | inl on ↦ open_from_count new_waits j (omega (arith, m.fewer j ne, next_few j h on))
-          ∙ sym (next_open j h on)
-      | inr off ↦ (let same : get_or new_waits j 0 ≡ get_or waits j 0 = omega
-          (arith, m.fewer j ne, cond-false {A = ℕ} _ 1 0 off) in ap (λ n. eqb n sent_entry) same)
+    donors_sent : (j : ℕ) → j < length links → leads_to links j node ≡ true →
+        has_sent waits j ≡ true
+    donors_sent j h on = elim (cases_Bool (has_sent waits j)) [
+      | inl t ↦ t
+      | inr f ↦ absurd (omega (
+        arith,
+        ready,
+        s.counts node inside node_open,
+        waiting-open links waits node j f,
+        cond-true {A = ℕ} _ 1 0 on,
+        term-le-sum_below (waiting links waits node) (length links) j h,
+      ))
     ]
 
-    apart : (i : ℕ) → has_sent new_waits i ≡ false → i ≢ node
-    apart i f e = false≢true (sym f ∙ ap (has_sent new_waits) e ∙ sent_now)
+    -- The node downstream has not sent.
+    next_open : (i : ℕ) → i < length links → leads_to links node i ≡ true →
+        has_sent waits i ≡ false
+    next_open i h on =
+        false_from_ne_true _ (λ t. false≢true (sym node_open ∙ s.closed i node h inside on t))
 
-    new_counts : (i : ℕ) → i < length links → has_sent new_waits i ≡ false →
-        get_or new_waits i 0 ≡ sum_below (waiting links new_waits i) (length links)
-    new_counts i h f = omega (
+    next_waits : (i : ℕ) → i < length links → leads_to links node i ≡ true → 1 ≤ get_or waits i 0
+    next_waits i h on = omega (
       arith,
-      m.fewer i (apart i f),
-      s.counts i h (sym (other_sent i h (apart i f)) ∙ f),
-      sum_below-except (waiting links new_waits i) (waiting links waits i)
-          (length links) node inside
-          (λ j l ne. ap (λ b. cond {A = ℕ} (leads_to links j i && not b) 1 0) (other_sent j l ne)),
+      s.counts i h (next_open i h on),
       waiting-open links waits i node node_open,
-      waiting-sent links new_waits i node sent_now,
+      cond-true {A = ℕ} _ 1 0 on,
+      term-le-sum_below (waiting links waits i) (length links) node inside,
     )
 
-    upstream_still : (j : ℕ) → leads_to links node j ≡ false →
-        get_or new_upstream j 0 ≡ get_or upstream j 0
-    upstream_still j off = omega (
+    next_few : (i : ℕ) → i < length links → leads_to links node i ≡ true →
+        get_or waits i 0 ≤ length links
+    next_few i h on = omega (
       arith,
-      m.more j,
-      cond-false {A = ℕ} _ (get_or upstream node 0 + get_or weights node 0) 0 off,
+      s.counts i h (next_open i h on),
+      sum_below-few (waiting links waits i) (length links) (λ j l.
+          bit_le (leads_to links j i && not (has_sent waits j))),
     )
 
-    same_sent : (i j : ℕ) → j < length links → j ≢ node →
-        sent_on links weights new_waits new_upstream i j ≡ sent_on links weights waits upstream i j
-    same_sent i j l ne = elim (cases_Bool (has_sent waits j)) [
-      | inl t ↦
-          sent_on-all links weights new_waits new_upstream i j (other_sent j l ne ∙ t)
-          ∙ ap (λ n. cond {A = ℕ} (leads_to links j i) (n + get_or weights j 0) 0)
-          (upstream_still j (false_from_ne_true _ (λ on. false≢true (sym (next_open j l on) ∙ t))))
-          ∙ sym (sent_on-all links weights waits upstream i j t)
-      | inr f ↦ sent_on-open links weights new_waits new_upstream i j (other_sent j l ne ∙ f)
-          ∙ sym (sent_on-open links weights waits upstream i j f)
-    ]
+    module _ (new_waits new_totals : List ℕ)
+        (m : MovesOn links waits totals new_waits new_totals node) where
+      sent_now : has_sent new_waits node ≡ true
+      sent_now = eq-eqb _ _ m.sent
 
-    new_sums : (i : ℕ) → i < length links → get_or new_upstream i 0
-        ≡ sum_below (sent_on links weights new_waits new_upstream i) (length links)
-    new_sums i h = omega (
-      arith,
-      m.more i,
-      s.sums i h,
-      sum_below-except (sent_on links weights new_waits new_upstream i)
-          (sent_on links weights waits upstream i) (length links) node inside (same_sent i),
-      sent_on-open links weights waits upstream i node node_open,
-      sent_on-all links weights new_waits new_upstream i node sent_now,
-      ap (λ n. cond {A = ℕ} (leads_to links node i) (n + get_or weights node 0) 0)
-          (upstream_still node (leads_self links node)),
-    )
-
-    new_closed : (i j : ℕ) → i < length links → j < length links → leads_to links j i ≡ true →
-        has_sent new_waits i ≡ true → has_sent new_waits j ≡ true
-    new_closed i j h l on t = elim (cases_eq j node) [
-      | inl k ↦ ap (has_sent new_waits) k ∙ sent_now
-      | inr k ↦ other_sent j l k ∙ elim (cases_eq i node) [
-        | inl b ↦ donors_sent j l (sym (ap (leads_to links j) b) ∙ on)
-        | inr b ↦ s.closed i j h l on (sym (other_sent i h b) ∙ t)
+      other_sent : (j : ℕ) → j < length links → j ≢ node → has_sent new_waits j ≡ has_sent waits j
+      other_sent j h ne = elim (cases_Bool (leads_to links node j)) [
+        | inl on ↦ open_from_count new_waits j
+            (omega (arith, m.fewer j ne, next_few j h on, s.few)) ∙ sym (next_open j h on)
+        | inr off ↦ (let same : get_or new_waits j 0 ≡ get_or waits j 0 = omega
+            (arith, m.fewer j ne, cond-false {A = ℕ} _ 1 0 off) in ap (λ n. eqb n sent_entry) same)
       ]
-    ]
 
-    -- The invariant holds after the node has sent.
-    pub sending_on : IsSending links weights new_waits new_upstream
-    sending_on = record {
-      waits_size = m.waits_size ∙ s.waits_size;
-      upstream_size = m.upstream_size ∙ s.upstream_size;
-      counts = new_counts;
-      sums = new_sums;
-      closed = new_closed;
-    }
+      apart : (i : ℕ) → has_sent new_waits i ≡ false → i ≢ node
+      apart i f e = false≢true (sym f ∙ ap (has_sent new_waits) e ∙ sent_now)
+
+      new_counts : (i : ℕ) → i < length links → has_sent new_waits i ≡ false →
+          get_or new_waits i 0 ≡ sum_below (waiting links new_waits i) (length links)
+      new_counts i h f = omega (
+        arith,
+        m.fewer i (apart i f),
+        s.counts i h (sym (other_sent i h (apart i f)) ∙ f),
+        sum_below-except (waiting links new_waits i) (waiting links waits i)
+            (length links) node inside (λ j l ne.
+            ap (λ b. cond {A = ℕ} (leads_to links j i && not b) 1 0) (other_sent j l ne)),
+        waiting-open links waits i node node_open,
+        waiting-sent links new_waits i node sent_now,
+      )
+
+      totals_still : (j : ℕ) → leads_to links node j ≡ false →
+          get_or new_totals j 0 ≡ get_or totals j 0
+      totals_still j off = omega
+          (arith, m.more j, cond-false {A = ℕ} _ (get_or totals node 0) 0 off)
+
+      same_sent : (i j : ℕ) → j < length links → j ≢ node →
+          sent_on links new_waits new_totals i j ≡ sent_on links waits totals i j
+      same_sent i j l ne = elim (cases_Bool (has_sent waits j)) [
+        | inl t ↦
+            sent_on-all links new_waits new_totals i j (other_sent j l ne ∙ t)
+            ∙ ap (λ n. cond {A = ℕ} (leads_to links j i) n 0)
+            (totals_still j (false_from_ne_true _ (λ on. false≢true (sym (next_open j l on) ∙ t))))
+            ∙ sym (sent_on-all links waits totals i j t)
+        | inr f ↦ sent_on-open links new_waits new_totals i j (other_sent j l ne ∙ f)
+            ∙ sym (sent_on-open links waits totals i j f)
+      ]
+
+      new_sums : (i : ℕ) → i < length links → get_or new_totals i 0
+          ≡ get_or weights i 0 + sum_below (sent_on links new_waits new_totals i) (length links)
+      new_sums i h = omega (
+        arith,
+        m.more i,
+        s.sums i h,
+        sum_below-except (sent_on links new_waits new_totals i)
+            (sent_on links waits totals i) (length links) node inside (same_sent i),
+        sent_on-open links waits totals i node node_open,
+        sent_on-all links new_waits new_totals i node sent_now,
+        ap (λ n. cond {A = ℕ} (leads_to links node i) n 0)
+            (totals_still node (leads_self links node)),
+      )
+
+      new_closed : (i j : ℕ) → i < length links → j < length links → leads_to links j i ≡ true →
+          has_sent new_waits i ≡ true → has_sent new_waits j ≡ true
+      new_closed i j h l on t = elim (cases_eq j node) [
+        | inl k ↦ ap (has_sent new_waits) k ∙ sent_now
+        | inr k ↦ other_sent j l k ∙ elim (cases_eq i node) [
+          | inl b ↦ donors_sent j l (sym (ap (leads_to links j) b) ∙ on)
+          | inr b ↦ s.closed i j h l on (sym (other_sent i h b) ∙ t)
+        ]
+      ]
+
+      -- The invariant holds after the node has sent.
+      sending_on : IsSending links weights new_waits new_totals
+      sending_on = record {
+        streams = s.streams;
+        few = s.few;
+        fits = s.fits;
+        waits_size = m.waits_size ∙ s.waits_size;
+        totals_size = m.totals_size ∙ s.totals_size;
+        counts = new_counts;
+        sums = new_sums;
+        closed = new_closed;
+      }
+
+      falls : unsent new_waits (length links) < unsent waits (length links)
+      falls = omega (
+        arith,
+        sum_below-except (unsent_one new_waits) (unsent_one waits) (length links) node inside
+            (λ j l ne. ap (λ b. cond {A = ℕ} b 0 1) (other_sent j l ne)),
+        cond-false {A = ℕ} _ 0 1 node_open,
+        cond-true {A = ℕ} _ 0 1 sent_now,
+      )
 
 -- The step of the loop that sends downstream.
 
@@ -309,121 +306,108 @@ abbrev pub next_waits_list : List ℕ → ℕ → ℕ → List ℕ
 next_waits_list waits node next =
     set (set waits node sent_entry) next (get_or (set waits node sent_entry) next 0 - 1)
 
-abbrev pub next_upstream_list : List ℕ → List ℕ → ℕ → ℕ → List ℕ
-next_upstream_list weights upstream node next =
-    set upstream next (get_or upstream next 0 + (get_or upstream node 0 + get_or weights node 0))
+abbrev pub next_totals_list : List ℕ → ℕ → ℕ → List ℕ
+next_totals_list totals node next = set totals next (get_or totals next 0 + get_or totals node 0)
 
-module _ (links weights waits upstream : List ℕ) (streams : AreStreams links)
-    (few : length links ≤ 2 ^ 30) (s : IsSending links weights waits upstream) (node : ℕ)
-    (inside : node < length links) (ready : get_or waits node 0 ≡ 0) where
+module _ (links weights waits totals : List ℕ) (s : IsSending links weights waits totals)
+    (node next : ℕ) (inside : node < length links) (ready : get_or waits node 0 ≡ 0)
+    (is : next ≡ get_or links node 0) where
   sent : get_or (set waits node sent_entry) node 0 ≡ sent_entry
   sent = get_or-set_same waits node sent_entry 0 (omega (arith, s.waits_size))
 
   others : (j : ℕ) → j ≢ node → get_or (set waits node sent_entry) j 0 ≡ get_or waits j 0
   others j ne = get_or-set_other waits node j sent_entry 0 ne
 
-  module _ (on : get_or links node 0 ≡ node → ⊥) where
-    pub step_waits : 1 ≤ get_or waits (get_or links node 0) 0
-    step_waits = next_waits links weights waits upstream few s node inside ready
-        (get_or links node 0) (streams.inside node inside)
-        (leads_from links node (get_or links node 0) refl (λ e. on (sym e)))
+  module _ (on : next ≢ node) where
+    pub next_inside : next < length links
+    next_inside = omega (arith, is, s.streams.inside node inside)
 
-    fewer : (i : ℕ) → i ≢ node → get_or (next_waits_list waits node (get_or links node 0)) i 0
+    pub step_waits : 1 ≤ get_or waits next 0
+    step_waits = next_waits links weights waits totals s node inside ready next next_inside
+        (leads_from links node next (sym is) (λ e. on (sym e)))
+
+    fewer : (i : ℕ) → i ≢ node → get_or (next_waits_list waits node next) i 0
         + cond {A = ℕ} (leads_to links node i) 1 0 ≡ get_or waits i 0
-    fewer i ne = elim (cases_eq (get_or links node 0) i) [
+    fewer i ne = elim (cases_eq next i) [
       | inl e ↦ omega (
         arith,
-        ap (λ n. get_or (next_waits_list waits node (get_or links node 0)) n 0) e,
-        get_or-set_same (set waits node sent_entry) (get_or links node 0)
-            (get_or (set waits node sent_entry) (get_or links node 0) 0 - 1) 0
-            (omega
-            (arith, length-set waits node sent_entry, s.waits_size, streams.inside node inside)),
-        others (get_or links node 0) on,
+        ap (λ n. get_or (next_waits_list waits node next) n 0) e,
+        get_or-set_same (set waits node sent_entry) next
+            (get_or (set waits node sent_entry) next 0 - 1) 0
+            (omega (arith, length-set waits node sent_entry, s.waits_size, next_inside)),
+        others next on,
         ap (λ n. get_or waits n 0) e,
         step_waits,
-        ap (λ b. cond {A = ℕ} b 1 0) (leads_test links node i on),
-        cond-true {A = ℕ} _ 1 0 (eq-eqb (get_or links node 0) i e),
+        ap (λ b. cond {A = ℕ} b 1 0) (leads_test links node next i is on),
+        cond-true {A = ℕ} _ 1 0 (eq-eqb next i e),
       )
       | inr other ↦ omega (
         arith,
-        get_or-set_other (set waits node sent_entry) (get_or links node 0) i
-            (get_or (set waits node sent_entry) (get_or links node 0) 0 - 1) 0 (λ e. other (sym e)),
+        get_or-set_other (set waits node sent_entry) next i
+            (get_or (set waits node sent_entry) next 0 - 1) 0 (λ e. other (sym e)),
         others i ne,
-        ap (λ b. cond {A = ℕ} b 1 0) (leads_test links node i on),
-        cond-false {A = ℕ} _ 1 0 (ne_eqb (get_or links node 0) i other),
+        ap (λ b. cond {A = ℕ} b 1 0) (leads_test links node next i is on),
+        cond-false {A = ℕ} _ 1 0 (ne_eqb next i other),
       )
     ]
 
-    moves : MovesOn links weights waits upstream (next_waits_list waits node (get_or links node 0))
-        (next_upstream_list weights upstream node (get_or links node 0)) node
+    moves : MovesOn links waits totals (next_waits_list waits node next)
+        (next_totals_list totals node next) node
     moves = record {
-      waits_size = length-set (set waits node sent_entry) (get_or links node 0) (get_or
-          (set waits node sent_entry) (get_or links node 0) 0 - 1)
-          ∙ length-set waits node sent_entry;
-      upstream_size = length-set upstream (get_or links node 0) (get_or upstream
-          (get_or links node 0) 0 + (get_or upstream node 0 + get_or weights node 0));
-      sent = get_or-set_other (set waits node sent_entry) (get_or links node 0) node (get_or
-          (set waits node sent_entry) (get_or links node 0) 0 - 1) 0 (λ e. on (sym e)) ∙ sent;
+      waits_size = length-set (set waits node sent_entry) next
+          (get_or (set waits node sent_entry) next 0 - 1) ∙ length-set waits node sent_entry;
+      totals_size = length-set totals next (get_or totals next 0 + get_or totals node 0);
+      sent = get_or-set_other (set waits node sent_entry) next node
+          (get_or (set waits node sent_entry) next 0 - 1) 0 (λ e. on (sym e)) ∙ sent;
       fewer = fewer;
-      more = λ i. added_at upstream (get_or links node 0) (get_or upstream node 0
-          + get_or weights node 0) i (omega (arith, s.upstream_size, streams.inside node inside))
-          ∙ ap (λ b. get_or upstream i 0 + cond {A = ℕ} b
-          (get_or upstream node 0 + get_or weights node 0) 0) (sym (leads_test links node i on));
+      more = λ i. added_at totals next (get_or totals node 0) i
+          (omega (arith, s.totals_size, next_inside))
+          ∙ ap (λ b. get_or totals i 0 + cond {A = ℕ} b (get_or totals node 0) 0)
+          (sym (leads_test links node next i is on));
     }
 
-    pub step_sending : IsSending links weights (next_waits_list waits node (get_or links node 0))
-        (next_upstream_list weights upstream node (get_or links node 0))
-    step_sending = sending_on links weights waits upstream few s node inside ready _ _ moves
+    pub step_sending : IsSending links weights (next_waits_list waits node next)
+        (next_totals_list totals node next)
+    step_sending = sending_on links weights waits totals s node inside ready _ _ moves
 
-    pub step_fits : get_or upstream (get_or links node 0) 0 + (get_or upstream node 0
-        + get_or weights node 0) ≤ total links weights (get_or links node 0)
+    pub step_fits : get_or totals next 0 + get_or totals node 0 < 2 ^ 32
     step_fits = omega (
       arith,
-      get_or-set_same upstream (get_or links node 0) (get_or upstream (get_or links node 0) 0
-          + (get_or upstream node 0 + get_or weights node 0)) 0
-          (omega (arith, s.upstream_size, streams.inside node inside)),
-      upstream_le links weights _ _ streams step_sending (get_or links node 0)
-          (streams.inside node inside),
+      get_or-set_same totals next (get_or totals next 0 + get_or totals node 0) 0
+          (omega (arith, s.totals_size, next_inside)),
+      so_far_le links weights _ _ step_sending next next_inside,
+      s.fits next next_inside,
     )
 
-    pub step_falls : unsent (next_waits_list waits node (get_or links node 0)) (length links)
+    pub step_falls : unsent (next_waits_list waits node next) (length links)
         < unsent waits (length links)
-    step_falls = unsent_falls waits _ (length links) node inside
-        (node_open links weights waits upstream few s node inside ready)
-        (sent_now links weights waits upstream few s node inside ready _ _ moves)
-        (other_sent links weights waits upstream few s node inside ready _ _ moves)
+    step_falls = falls links weights waits totals s node inside ready _ _ moves
 
     pub step_early : (from : ℕ) → ((i : ℕ) → i < from → i ≢ node → get_or waits i 0 ≢ 0) →
-        (i : ℕ) → i < from → i ≢ get_or links node 0 →
-        get_or (next_waits_list waits node (get_or links node 0)) i 0 ≢ 0
+        (i : ℕ) → i < from → i ≢ next → get_or (next_waits_list waits node next) i 0 ≢ 0
     step_early from early i h ne = elim (cases_eq i node) [
-      | inl e ↦ (λ z. omega (
-        arith,
-        z,
-        ap (λ n. get_or (next_waits_list waits node (get_or links node 0)) n 0) e,
-        moves.sent,
-      ))
+      | inl e ↦ (λ z. omega
+          (arith, z, ap (λ n. get_or (next_waits_list waits node next) n 0) e, moves.sent))
       | inr other ↦ (λ z. early i h other (sym (get_or-set_other (set waits node sent_entry)
-          (get_or links node 0) i _ 0 ne ∙ others i other) ∙ z))
+          next i _ 0 ne ∙ others i other) ∙ z))
     ]
 
-  module _ (end : get_or links node 0 ≡ node) where
-    ended : MovesOn links weights waits upstream (set waits node sent_entry) upstream node
+  module _ (end : next ≡ node) where
+    ended : MovesOn links waits totals (set waits node sent_entry) totals node
     ended = record {
       waits_size = length-set waits node sent_entry;
-      upstream_size = refl;
+      totals_size = refl;
       sent = sent;
-      fewer =
-          λ i ne. omega (arith, others i ne, cond-false {A = ℕ} _ 1 0 (leads_end links node i end));
+      fewer = λ i ne. omega
+          (arith, others i ne, cond-false {A = ℕ} _ 1 0 (leads_end links node i (sym is ∙ end)));
       more = λ i. omega (
         arith,
-        cond-false {A = ℕ} _ (get_or upstream node 0 + get_or weights node 0) 0
-            (leads_end links node i end),
+        cond-false {A = ℕ} _ (get_or totals node 0) 0 (leads_end links node i (sym is ∙ end)),
       );
     }
 
-    pub end_sending : IsSending links weights (set waits node sent_entry) upstream
-    end_sending = sending_on links weights waits upstream few s node inside ready _ _ ended
+    pub end_sending : IsSending links weights (set waits node sent_entry) totals
+    end_sending = sending_on links weights waits totals s node inside ready _ _ ended
 
     pub end_early : (from : ℕ) → ((i : ℕ) → i < from → i ≢ node → get_or waits i 0 ≢ 0) →
         (i : ℕ) → i < from → get_or (set waits node sent_entry) i 0 ≢ 0

@@ -7,7 +7,7 @@ use Rattle.terrain.specs.declared.place.Place.{Place}
 use Rattle.tiles.specs.declared.bounds.Bounds.{Bounds}
 use Rattle.tiles.specs.Cutting.{Cutting, IsInBounds, bounds_of, cell_count, tile_count, index_in}
 use Rattle.flow.specs.Counts.{accumulation, IsValueAt}
-use Rattle.flow.specs.Streams.{AreStreams, AreUpstream, total}
+use Rattle.flow.specs.Streams.{AreStreams, AreSums, total}
 use Rattle.flow.specs.TileFlow.{Flow}
 use Rattle.flow.specs.TileLinks.{links_by, weights_by, where_data}
 use Rattle.flow.specs.RimGraph.{AreFlowsOf}
@@ -55,19 +55,18 @@ pub record AreCountable (t : Cutting) (flows : List Flow) (inflows : Inflows) : 
   pub count : length flows ≡ tile_count t
   pub each : (tile : ℕ) (f : Flow) → slice_get flows tile ≡ Some f → IsCountable inflows tile f
 
--- Each data cell's entry in `weights` plus that in `upstream`, less 1 for the cell itself; `None`
--- at NODATA.
-abbrev pub counts_by : List (Option ℕ) → List ℕ → List ℕ → List (Option ℕ)
-counts_by cells weights upstream =
-    map (λ i. where_data (slice_index_or cells i None)
-    (slice_index upstream i + slice_index weights i - 1)) (range_with_len 0 (length cells))
+-- Each data cell's total, less 1 for the cell itself; `None` at NODATA.
+abbrev pub counts_by : List (Option ℕ) → List ℕ → List (Option ℕ)
+counts_by cells totals = map
+    (λ i. where_data (slice_index_or cells i None) (slice_index totals i - 1))
+    (range_with_len 0 (length cells))
 
--- The values are the counts that `counts_by` makes of the tile's weights with inflows and of the
--- sums of these weights upstream of each cell.
+-- The values are the counts that `counts_by` makes of the cells' totals, with inflows in the
+-- weights.
 pub record AreCounts (inflows : Inflows) (tile : ℕ) (f : Flow)
     (values : List (Option ℕ)) : Type 0 where
   pub weights : List ℕ
-  pub upstream : List ℕ
+  pub totals : List ℕ
   pub weighed : AreRimWeights inflows (bounds_of inflows.cutting tile) f.codes weights
-  pub up : AreUpstream (links_by f.bounds f.codes) weights upstream
-  pub made : values ≡ counts_by f.codes weights upstream
+  pub summed : AreSums (links_by f.bounds f.codes) weights totals
+  pub made : values ≡ counts_by f.codes totals

@@ -33,18 +33,17 @@ abbrev pub sent_to : Cutting → ℕ → Option Place → ℕ → ℕ
 sent_to t k None amount = 0
 sent_to t k (Some entry) amount = if rim_number t entry == k then amount else 0
 
--- The amount that rim number i sends to rim number k: the weight of i plus its sum from upstream.
--- It is 0 unless the target of i has number k.
-abbrev pub entering : Cutting → List (Option Place) → List ℕ → List ℕ → ℕ → ℕ → ℕ
-entering t targets weights upstream k i =
-    sent_to t k (slice_index_or targets i None) (slice_index upstream i + slice_index weights i)
+-- The amount that rim number i sends to rim number k: its total if the target of i has number k,
+-- else 0.
+abbrev pub entering : Cutting → List (Option Place) → List ℕ → ℕ → ℕ → ℕ
+entering t targets totals k i = sent_to t k (slice_index_or targets i None) (slice_index totals i)
 
 -- The inflow of each rim number: the sum of the amounts that all rim numbers send to it.
-pub record AreEntering (t : Cutting) (targets : List (Option Place))
-    (weights upstream listed : List ℕ) : Type 0 where
+pub record AreEntering (t : Cutting) (targets : List (Option Place)) (totals listed : List ℕ) :
+    Type 0 where
   pub size : length listed ≡ rim_number_count t
   pub each : (k : ℕ) → k < rim_number_count t →
-      slice_index listed k ≡ sum_below (entering t targets weights upstream k) (rim_number_count t)
+      slice_index listed k ≡ sum_below (entering t targets totals k) (rim_number_count t)
 
 -- The inflows of all tiles, by rim number.
 pub record Inflows : Type 0 where

@@ -1,9 +1,9 @@
--- Sums sent along links: a node sends its sum and weight once all its donors, the other nodes
--- linked to it, have sent theirs.
+-- Totals sent along links: a node sends its total, its weight and what it got, once all its donors,
+-- the other nodes linked to it, have sent theirs.
 -- Private.
-use Rattle.std.specs.Prelude.{◌≡◌, ℕ, ◌+◌, ◌<◌, Bool, true, false, not, ◌&&◌, ◌==◌, if◌then◌else◌, List, length, slice_index}
+use Rattle.std.specs.Prelude.{◌≡◌, ℕ, ◌+◌, ◌^◌, ◌<◌, ◌≤◌, Bool, true, false, not, ◌&&◌, ◌==◌, if◌then◌else◌, List, length, slice_index}
 use Rattle.tile_jobs.specs.Sums.{sum_below}
-use Rattle.flow.specs.Streams.{leads_to}
+use Rattle.flow.specs.Streams.{AreStreams, leads_to, total}
 
 -- The entry in `waits` of a node that has sent. A node linked to itself, an end, sends nothing, and
 -- gets it when the sending comes to it and all its donors have sent.
@@ -21,22 +21,23 @@ donor links i j = if leads_to links j i then 1 else 0
 abbrev pub waiting : List ℕ → List ℕ → ℕ → ℕ → ℕ
 waiting links waits i j = if leads_to links j i && not (has_sent waits j) then 1 else 0
 
--- The amount that node j has sent to node i: its weight and its sum from upstream. It is 0 if j is
--- no donor of i or has not sent.
-abbrev pub sent_on : List ℕ → List ℕ → List ℕ → List ℕ → ℕ → ℕ → ℕ
-sent_on links weights waits upstream i j =
-    if leads_to links j i && has_sent waits j then slice_index upstream j + slice_index weights j
-    else 0
+-- The total that node j has sent to node i. It is 0 if j is no donor of i or has not sent.
+abbrev pub sent_on : List ℕ → List ℕ → List ℕ → ℕ → ℕ → ℕ
+sent_on links waits totals i j =
+    if leads_to links j i && has_sent waits j then slice_index totals j else 0
 
--- A node's sum, its entry in `upstream`, is the amount that its donors have sent. Until it sends,
--- `waits` counts its donors that have not. The donors of a node that has sent have all sent.
-pub record IsSending (links weights waits upstream : List ℕ) : Type 0 where
+-- A node's entry in `totals` is its weight and what its donors have sent. Until it sends, `waits`
+-- counts its donors that have not. The donors of a node that has sent have all sent.
+pub record IsSending (links weights waits totals : List ℕ) : Type 0 where
+  pub streams : AreStreams links
+  pub few : length links ≤ 2 ^ 30
+  pub fits : (i : ℕ) → i < length links → total links weights i < 2 ^ 32
   pub waits_size : length waits ≡ length links
-  pub upstream_size : length upstream ≡ length links
+  pub totals_size : length totals ≡ length links
   pub counts : (i : ℕ) → i < length links → has_sent waits i ≡ false →
       slice_index waits i ≡ sum_below (waiting links waits i) (length links)
-  pub sums : (i : ℕ) → i < length links →
-      slice_index upstream i ≡ sum_below (sent_on links weights waits upstream i) (length links)
+  pub sums : (i : ℕ) → i < length links → slice_index totals i
+      ≡ slice_index weights i + sum_below (sent_on links waits totals i) (length links)
   pub closed : (i j : ℕ) → i < length links → j < length links → leads_to links j i ≡ true →
       has_sent waits i ≡ true → has_sent waits j ≡ true
 

@@ -43,11 +43,10 @@ total_within links weights (suc k) i =
 abbrev pub total : List ℕ → List ℕ → ℕ → ℕ
 total links weights i = total_within links weights (length links) i
 
--- Entry i of `upstream` plus the weight of node i is the total of node i.
-pub record AreUpstream (links weights upstream : List ℕ) : Type 0 where
-  pub size : length upstream ≡ length links
-  pub each : (i : ℕ) → i < length links →
-      slice_index upstream i + slice_index weights i ≡ total links weights i
+-- Entry i of `totals` is the total of node i.
+pub record AreSums (links weights totals : List ℕ) : Type 0 where
+  pub size : length totals ≡ length links
+  pub each : (i : ℕ) → i < length links → slice_index totals i ≡ total links weights i
 
 -- The end of each node's path.
 pub record AreEnds (links ends : List ℕ) : Type 0 where

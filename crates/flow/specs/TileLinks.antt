@@ -1,6 +1,6 @@
 -- The directions of a tile as links between its cells, by their indexes in the tile's row order.
 -- Public.
-use Rattle.std.specs.Prelude.{◌≡◌, ℕ, ◌+◌, ◌*◌, ◌<◌, ◌≤◌, if◌then◌else◌, is_some, List, map, length, Option, None, Some, slice_index, slice_index_or, unwrap_or, option_and_then}
+use Rattle.std.specs.Prelude.{◌≡◌, ℕ, ◌+◌, ◌-◌, ◌*◌, ◌/◌, ◌%◌, ◌^◌, ◌<◌, ◌≤◌, if◌then◌else◌, is_some, List, map, length, Option, None, Some, slice_index, slice_index_or, unwrap_or, option_and_then}
 use Rattle.std.specs.List.{range_with_len}
 use Rattle.terrain.specs.Ways.{place_toward}
 use Rattle.tiles.specs.Cutting.{longest_axis, is_in_bounds, index_in, place_in}
@@ -37,13 +37,33 @@ link_by b i code =
     let q = unwrap_or (option_and_then (λ c. place_toward c p) code) p in
     if is_in_bounds b q then index_in b q else i
 
--- The links of the first `count` cells; `links_by` has those of all cells.
-abbrev pub first_links : Bounds → List (Option ℕ) → ℕ → List ℕ
-first_links b cells count =
-    map (λ i. link_by b i (slice_index_or cells i None)) (range_with_len 0 count)
-
 abbrev pub links_by : Bounds → List (Option ℕ) → List ℕ
-links_by b cells = first_links b cells (b.rows * b.cols)
+links_by b cells =
+    map (λ i. link_by b i (slice_index_or cells i None)) (range_with_len 0 (b.rows * b.cols))
+
+-- A move is 4 times the rows down to a cell plus the columns right, each plus 1. From the cell with
+-- index i, in rows of `cols` cells, it leads to index `reach cols i move - (cols + 1)`.
+abbrev pub reach : ℕ → ℕ → ℕ → ℕ
+reach cols i move = i + move / 4 * cols + move % 4
+
+abbrev pub moved_by : ℕ → List ℕ → List ℕ
+moved_by cols moves = map (λ i. reach cols i (slice_index moves i) - (cols + 1))
+    (range_with_len 0 (length moves))
+
+-- Each cell's move leads to an index, and what finds it stays below 2^32.
+pub record AreMoves (cols : ℕ) (moves : List ℕ) : Type 0 where
+  pub low : (i : ℕ) → i < length moves → cols + 1 ≤ reach cols i (slice_index moves i)
+  pub high : (i : ℕ) → i < length moves → reach cols i (slice_index moves i) < 2 ^ 32
+
+-- The move of cell i leads to the cell to which cell i with this code is linked.
+abbrev pub IsMove : Bounds → ℕ → Option ℕ → ℕ → Type 0
+IsMove b i code move = reach b.cols i move ≡ link_by b i code + (b.cols + 1)
+
+-- The moves of the first `count` cells.
+pub record AreFirstMoves (b : Bounds) (cells : List (Option ℕ)) (count : ℕ) (moves : List ℕ) :
+    Type 0 where
+  pub size : length moves ≡ count
+  pub each : (i : ℕ) → i < length moves → IsMove b i (slice_index_or cells i None) (slice_index moves i)
 
 abbrev pub weights_by : List (Option ℕ) → List ℕ
 weights_by cells = map (λ code. if is_some code then 1 else 0) cells
@@ -53,10 +73,11 @@ abbrev pub where_data : {X : Type 0} → Option ℕ → X → Option X
 where_data None x = None
 where_data (Some code) x = Some x
 
+-- Each data cell's total, less 1 for the cell itself.
 abbrev pub through_list : List (Option ℕ) → List ℕ → List (Option ℕ)
-through_list cells upstream = map
-    (λ i. where_data (slice_index_or cells i None) (slice_index upstream i))
-    (range_with_len 0 (length upstream))
+through_list cells totals = map
+    (λ i. where_data (slice_index_or cells i None) (slice_index totals i - 1))
+    (range_with_len 0 (length totals))
 
 -- The index where each cell's path along links ends.
 abbrev pub ends_by : List ℕ → List ℕ
@@ -72,20 +93,20 @@ abbrev pub exits_by : Bounds → List (Option ℕ) → List ℕ → List (Option
 exits_by b cells ends = map (λ i. where_data (slice_index_or cells i None)
     (place_in b (slice_index ends i))) (range_with_len 0 (length cells))
 
--- The flow of a tile, by its codes, its counts upstream and the ends of paths along links.
+-- The flow of a tile, by its codes, its cells' totals and the ends of paths along links.
 abbrev pub flow_by : Bounds → List (Option ℕ) → List ℕ → List ℕ → Flow
-flow_by b cells upstream ends = record {
+flow_by b cells totals ends = record {
   bounds = b;
   codes = cells;
-  through = through_list cells upstream;
+  through = through_list cells totals;
   exits = exits_by b cells ends;
 }
 
--- Lists of one lawful flow with these codes and counts upstream. The links are those of the codes,
--- and all paths along them end. `rim_ends` has the ends of the rim cells' paths.
+-- Lists of one lawful flow with these codes and totals. The links are those of the codes, and all
+-- paths along them end. `rim_ends` has the ends of the rim cells' paths.
 pub record AreFlowLists (b : Bounds) (cells : List (Option ℕ))
-    (links upstream rim_ends : List ℕ) : Type 0 where
+    (links totals rim_ends : List ℕ) : Type 0 where
   pub linked : links ≡ links_by b cells
-  pub lawful : IsFlow (flow_by b cells upstream (ends_by links))
+  pub lawful : IsFlow (flow_by b cells totals (ends_by links))
   pub streams : AreStreams links
   pub rim : rim_ends ≡ rim_ends_by b links

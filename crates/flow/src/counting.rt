@@ -4,7 +4,7 @@
 //! each cell inside the tile. `inflows` sums what enters each rim cell from other tiles. A second
 //! job for each tile finds accumulations.
 ghost use Rattle.std.proofs.Props.{props};
-ghost use Rattle.std.specs.Prelude.{◌≡◌, ◌+◌, ◌^◌, ◌<◌, ℕ, length, slice_index, IfOk};
+ghost use Rattle.std.specs.Prelude.{◌≡◌, ◌^◌, ◌<◌, length, IfOk};
 ghost use Rattle.tiles.specs.Cutting.{Cuts, IsInBounds, bounds_of, cell_count, tile_count};
 ghost use Rattle.tile_jobs.specs.Fault.{RefusesWorkers};
 ghost use Rattle.drainage.specs.Drained.{directed_of};
@@ -17,7 +17,7 @@ use crate::cells::tile_weights;
 use crate::flowing::flow_tiles;
 use crate::inflows::Inflows;
 use crate::rim_graph::RimGraph;
-use crate::streams::upstream_weights;
+use crate::streams::totals;
 use crate::tile::{TileFlow, count_where_data};
 use drainage::{Code, Directions};
 use std::alloc::{AllocError, Global};
@@ -114,8 +114,8 @@ fn tile_counts(
 {
     let codes = flow.codes();
     let weights = weights_with_inflows(alloc, inflows, tile, codes)?;
-    let upstream = upstream_weights(alloc, flow.links(), &weights)?;
-    counts(alloc, codes, &weights, &upstream)
+    let totals = totals(alloc, flow.links(), weights)?;
+    counts(alloc, codes, &totals)
 }
 
 /// Returns each cell's weight: its inflow, plus 1 for a data cell.
@@ -137,26 +137,17 @@ fn weights_with_inflows(
     Ok(weights)
 }
 
-/// Returns each data cell's entry in `weights` plus that in `upstream`, less 1.
+/// Returns each data cell's total, less 1 for the cell itself.
 /// NODATA has no count.
 #[tactic(auto, using(crate::proofs::Ranges::mapped_next))]
-fn counts(
-    alloc: Global,
-    cells: &[Option<Code>],
-    weights: &[u32],
-    upstream: &[u32],
-) -> Result<Vec<Count>, AllocError>
-    requires weights { length weights.now ≡ length cells.now }
-    requires upstream { length upstream.now ≡ length cells.now }
-    requires fits { (i : ℕ) → i < length cells.now →
-        slice_index upstream.now i + slice_index weights.now i < 2 ^ 32 }
-    ensures { IfOk result (λ v. v.items ≡ counts_by cells.now weights.now upstream.now) }
+fn counts(alloc: Global, cells: &[Option<Code>], totals: &[u32]) -> Result<Vec<Count>, AllocError>
+    requires { length totals.now ≡ length cells.now }
+    ensures { IfOk result (λ v. v.items ≡ counts_by cells.now totals.now) }
 {
     let mut values = Vec::with_capacity(alloc, cells.len())?;
     for index in 0..cells.len() {
-        let total = upstream[index] + weights[index];
         // The total of NODATA is 0, hence `saturating_sub`.
-        values.push(count_where_data(cells[index], total.saturating_sub(1)))?;
+        values.push(count_where_data(cells[index], totals[index].saturating_sub(1)))?;
     }
     Ok(values)
 }

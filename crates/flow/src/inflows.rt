@@ -16,7 +16,7 @@ ghost use Rattle.flow.specs.Inflows.{AreEntering, AreInflows, adds_at, entering,
 use crate::cells::is_place;
 use crate::rim::side_cell;
 use crate::rim_graph::RimGraph;
-use crate::streams::{upstream_weights, zeros};
+use crate::streams::{totals, zeros};
 use crate::tile::TileFlow;
 use std::alloc::{AllocError, Global};
 use std::marker::Model;
@@ -61,9 +61,9 @@ impl Inflows {
     {
         let targets = &rim_graph.targets;
         let weights = rim_weights(alloc, tiling, flows, targets)?;
-        let upstream = upstream_weights(alloc, &rim_graph.links, &weights)?;
+        let totals = totals(alloc, &rim_graph.links, weights)?;
         let mut listed = zeros(alloc, tiling.rim_number_count() as usize)?;
-        send_all(tiling, targets, &weights, &upstream, &mut listed);
+        send_all(tiling, targets, &totals, &mut listed);
         Ok(Inflows {
             tiling: *tiling,
             listed,
@@ -186,30 +186,25 @@ fn rim_weights(
     Ok(weights)
 }
 
-/// Adds each rim number's entries in `weights` and `upstream` to the inflow of its target, if any.
+/// Adds each rim number's total to the inflow of its target, if any.
 /// The target is the place in another tile that the cell with the number flows into.
-fn send_all(
-    tiling: &Tiling,
-    targets: &[Option<Place>],
-    weights: &[u32],
-    upstream: &[u32],
-    listed: &mut [u32],
-)
+fn send_all(tiling: &Tiling, targets: &[Option<Place>], totals: &[u32], listed: &mut [u32])
     requires targets { length targets.now ≡ rim_number_count tiling.now }
     requires within { (i : ℕ) → i < rim_number_count tiling.now →
         IfSome (slice_index_or targets.now i None) (IsWithin tiling.now) }
-    requires weights { length weights.now ≡ rim_number_count tiling.now }
-    requires upstream { length upstream.now ≡ rim_number_count tiling.now }
-    requires amounts { (i : ℕ) → i < rim_number_count tiling.now →
-        slice_index upstream.now i + slice_index weights.now i < 2 ^ 32 }
-    requires few { (k : ℕ) → sum_below (entering tiling.now targets.now weights.now upstream.now k)
+    requires totals { length totals.now ≡ rim_number_count tiling.now }
+    requires few { (k : ℕ) → sum_below (entering tiling.now targets.now totals.now k)
         (rim_number_count tiling.now) < 2 ^ 32 }
     requires none { AreZeros (rim_number_count tiling.now) listed.old }
-    ensures { AreEntering tiling.now targets.now weights.now upstream.now listed.new }
+    ensures { AreEntering tiling.now targets.now totals.now listed.new }
 {
     for number in 0..tiling.rim_number_count() {
-        let amount = upstream[number as usize] + weights[number as usize];
-        send(tiling, targets[number as usize], amount, listed);
+        send(
+            tiling,
+            targets[number as usize],
+            totals[number as usize],
+            listed,
+        );
     }
 }
 

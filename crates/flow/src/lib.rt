@@ -13,7 +13,9 @@
 //! - `end_numbers`: the trait for numbers of cells where flow paths end
 //! - `flowing`: the flows of all tiles
 //! - `tile`: the flow of one tile
-//! - `cells`: codes, links and weights of a tile
+//! - `cells`: codes and weights of a tile
+//! - `tile_links`: links of a tile's cells, one byte each
+//! - `nodes`: the trait for links of nodes
 //! - `streams`: weights summed along links
 //! - `ends`: where paths along links end
 //! - `rim`: rim cells and where their paths along links end
@@ -36,6 +38,7 @@ mod gauges;
 mod inflows;
 pub mod laws;
 mod links;
+mod nodes;
 mod numbering;
 mod outlet_numbers;
 mod outlets;
@@ -43,6 +46,7 @@ mod rim;
 mod rim_graph;
 mod streams;
 mod tile;
+mod tile_links;
 
 pub use basin::basins;
 pub use catchment::catchments;

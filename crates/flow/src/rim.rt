@@ -1,6 +1,5 @@
 //! Finds the rim cells of a tile by side number, and where the paths of cells along links end.
 //!
-//! A cell's link leads to the next cell downstream, or to the cell itself if none is in the tile.
 //! A side number is a rim cell's number in its tile (`Bounds::side_number`). A rim number is a
 //! rim cell's number among those of all tiles (`Tiling::rim_number`). Side numbers depend on the
 //! size of a largest tile: in `side_cell` it is `largest`, in `rim_ends` the tile itself.
@@ -14,6 +13,7 @@ ghost use Rattle.flow.specs.RimGraph.{side_cell};
 
 use crate::cells::is_place;
 use crate::ends::{end_of, find_end, unknown_ends};
+use crate::tile_links::TileLinks;
 use std::alloc::{AllocError, Global};
 use terrain::Place;
 use tiles::Bounds;
@@ -38,7 +38,11 @@ pub(crate) fn side_cell(largest: Bounds, bounds: Bounds, side: u32) -> Option<Pl
 }
 
 /// Returns the index where each rim cell's path along links ends, by side number.
-pub(crate) fn rim_ends(alloc: Global, bounds: Bounds, links: &[u32]) -> Result<Vec<u32>, AllocError>
+pub(crate) fn rim_ends(
+    alloc: Global,
+    bounds: Bounds,
+    links: &TileLinks,
+) -> Result<Vec<u32>, AllocError>
     requires small { EndsInLargestGrid bounds }
     requires some_row { 1 ≤ bounds.rows }
     requires size { length links.now ≡ bounds.rows * bounds.cols }
@@ -56,7 +60,7 @@ pub(crate) fn rim_ends(alloc: Global, bounds: Bounds, links: &[u32]) -> Result<V
 fn ends_of_sides(
     alloc: Global,
     bounds: Bounds,
-    links: &[u32],
+    links: &TileLinks,
     found: &mut [u32],
 ) -> Result<Vec<u32>, AllocError>
     requires small { EndsInLargestGrid bounds }
@@ -77,7 +81,7 @@ fn ends_of_sides(
 
 /// Returns the index where a cell's path along links ends.
 /// Reads it from `rim_ends` for a rim cell, and follows links for any other.
-pub(crate) fn end_in(bounds: Bounds, links: &[u32], rim_ends: &[u32], place: Place) -> u32
+pub(crate) fn end_in(bounds: Bounds, links: &TileLinks, rim_ends: &[u32], place: Place) -> u32
     requires small { EndsInLargestGrid bounds }
     requires inside { IsInBounds bounds place }
     requires size { length links.now ≡ bounds.rows * bounds.cols }

@@ -1,8 +1,7 @@
 //! The flow inside one tile: [`tile_flow`].
 //!
-//! A flow has each data cell's code and exit, and each cell's link: the index of the next cell
-//! downstream, or the cell's own index if none is in the tile. A flow with counts also has how many
-//! other cells' flow paths reach each data cell inside the tile.
+//! A flow has each data cell's code and exit, and each cell's link (`TileLinks`). A flow with counts
+//! also has how many other cells' flow paths reach each data cell inside the tile.
 ghost use Rattle.std.specs.Prelude.{◌≡◌, ◌<◌, length, slice_index_or, IfOk, IfSome, None};
 ghost use Rattle.std.specs.Option.{option_map};
 ghost use Rattle.terrain.specs.StoredCells.{uncounted};
@@ -14,10 +13,11 @@ ghost use Rattle.flow.specs.TileLinks.{where_data, links_by};
 ghost use Rattle.flow.specs.Whole.{is_outlet_code};
 ghost use Rattle.flow.specs.RimGraph.{next_exit_in};
 
-use crate::cells::{tile_codes, tile_links, tile_weights};
+use crate::cells::{tile_codes, tile_weights};
 use crate::ends::ends;
 use crate::rim::{end_in, rim_ends};
-use crate::streams::upstream_weights;
+use crate::streams::totals;
+use crate::tile_links::TileLinks;
 use drainage::Code;
 use std::alloc::{AllocError, Global};
 use std::marker::Model;
@@ -30,10 +30,9 @@ use tiles::{Bounds, TileView};
 pub struct TileFlow {
     bounds: Bounds,
     codes: Vec<Option<Code>>,
-    // For each cell the index of the next one downstream, or its own if none is in the tile.
-    links: Vec<u32>,
-    // How many other cells' flow paths reach each cell inside the tile; empty without counts.
-    upstream: Vec<u32>,
+    links: TileLinks,
+    // How many cells' flow paths contain each cell inside the tile; empty without counts.
+    totals: Vec<u32>,
     // The index where each rim cell's path along links ends, by `Bounds::side_number` with this
     // tile as the largest. For other cells `end_in` follows the links. A cell without data is
     // linked to itself, and `exit_at` returns `None` for it.
@@ -46,10 +45,10 @@ impl Model for TileFlow {
 
     ghost Value = { Flow };
 
-    ghost view = { λ f. flow_by f.bounds f.codes.items f.upstream.items (ends_by f.links.items) };
+    ghost view = { λ f. flow_by f.bounds f.codes.items f.totals.items (ends_by f.links) };
 
     ghost invariant = { λ f.
-        AreFlowLists f.bounds f.codes.items f.links.items f.upstream.items f.rim_ends.items };
+        AreFlowLists f.bounds f.codes.items f.links f.totals.items f.rim_ends.items };
 }
 
 impl TileFlow {
@@ -93,9 +92,9 @@ impl TileFlow {
         &self.codes
     }
 
-    /// Returns the index to which each cell is linked, in the tile's row order.
+    /// Returns the links of the tile's cells.
     #[inline(always)]
-    pub(crate) fn links(&self) -> &[u32]
+    pub(crate) fn links(&self) -> &TileLinks
         ensures { result.now ≡ links_by self.now.bounds self.now.codes }
     {
         &self.links
@@ -115,8 +114,8 @@ impl TileFlow {
         requires { index < length self.now.codes }
         ensures { result ≡ slice_index_or self.now.through index None }
     {
-        if index < self.upstream.len() {
-            where_data(self.codes[index], self.upstream[index])
+        if index < self.totals.len() {
+            where_data(self.codes[index], self.totals[index].saturating_sub(1))
         } else {
             None
         }
@@ -210,7 +209,7 @@ pub fn tile_flow(alloc: Global, codes: &TileView<'_, Option<Code>>) -> Result<Ti
     prove!(codes.bounds().cols > 0);
     let mut flow = tile_exits(alloc, codes)?;
     let weights = tile_weights(alloc, &flow.codes)?;
-    flow.upstream = upstream_weights(alloc, &flow.links, &weights)?;
+    flow.totals = totals(alloc, &flow.links, weights)?;
     Ok(flow)
 }
 
@@ -225,13 +224,13 @@ pub(crate) fn tile_exits(
 {
     let bounds = codes.bounds();
     let cells = tile_codes(alloc, codes)?;
-    let links = tile_links(alloc, bounds, &cells)?;
+    let links = TileLinks::of_codes(alloc, bounds, &cells)?;
     let rim_ends = rim_ends(alloc, bounds, &links)?;
     Ok(TileFlow {
         bounds,
         codes: cells,
         links,
-        upstream: Vec::new(alloc),
+        totals: Vec::new(alloc),
         rim_ends,
     })
 }

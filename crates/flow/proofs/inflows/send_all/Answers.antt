@@ -10,10 +10,8 @@ send-requires-clause-fits c = λ k h.
     omega (
       arith,
       c.loop-number.invariant.each k h,
-      sum_more (entering c.args.tiling.now c.args.targets.now c.args.weights.now c.args.upstream.now
-          k) c.loop-number.number,
-      sum_below-part (entering c.args.tiling.now c.args.targets.now c.args.weights.now
-          c.args.upstream.now k) (c.loop-number.number + 1) (rim_number_count c.args.tiling.now)
+      sum_more (entering c.args.tiling.now c.args.targets.now c.args.totals.now k) c.loop-number.number,
+      sum_below-part (entering c.args.tiling.now c.args.targets.now c.args.totals.now k) (c.loop-number.number + 1) (rim_number_count c.args.tiling.now)
           (omega (arith, c.loop-number-test.true, c.rim_number_count-number-end.ensures.value)),
       c.requires.few k,
     )
@@ -25,8 +23,7 @@ loop-number-preserved c = record {
     arith,
     c.send.ensures.each k h,
     c.loop-number.invariant.each k h,
-    sum_more (entering c.args.tiling.now c.args.targets.now c.args.weights.now c.args.upstream.now
-        k) c.loop-number.number,
+    sum_more (entering c.args.tiling.now c.args.targets.now c.args.totals.now k) c.loop-number.number,
   );
 }
 
@@ -41,6 +38,5 @@ returns c =
     ) in
     record {
       size = c.loop-number.invariant.size;
-      each = λ k h. c.loop-number.invariant.each k h ∙ ap (sum_below (entering c.args.tiling.now
-          c.args.targets.now c.args.weights.now c.args.upstream.now k)) all;
+      each = λ k h. c.loop-number.invariant.each k h ∙ ap (sum_below (entering c.args.tiling.now c.args.targets.now c.args.totals.now k)) all;
     }

@@ -8,5 +8,5 @@ abbrev pub invariant-loop-number : goal.invariant-loop-number
 invariant-loop-number l = record {
   size : length l.listed ≡ rim_number_count l.tiling;
   each : (k : ℕ) → k < rim_number_count l.tiling →
-      get_or l.listed k 0 ≡ sum_below (entering l.tiling l.targets l.weights l.upstream k) l.number;
+      get_or l.listed k 0 ≡ sum_below (entering l.tiling l.targets l.totals k) l.number;
 }

@@ -4,7 +4,8 @@ use Rattle.flow.specs.Sending.{donor}
 use Rattle.flow.proofs.streams.count_donors.Given as goal
 
 abbrev pub invariant-loop-node : goal.invariant-loop-node
-invariant-loop-node l = record {
-  size : length l.counts ≡ length l.links;
-  each : (i : ℕ) → i < length l.links → get_or l.counts i 0 ≡ sum_below (donor l.links i) l.node;
+invariant-loop-node g l = record {
+  size : length l.counts ≡ length (g.L.Links.list l.links);
+  each : (i : ℕ) → i < length (g.L.Links.list l.links) →
+      get_or l.counts i 0 ≡ sum_below (donor (g.L.Links.list l.links) i) l.node;
 }

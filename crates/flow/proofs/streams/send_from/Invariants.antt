@@ -4,11 +4,11 @@ use Rattle.flow.proofs.Sending.{unsent}
 use Rattle.flow.proofs.streams.send_from.Given as goal
 
 abbrev pub invariant-downstream : goal.invariant-downstream
-invariant-downstream l = record {
-  sending : IsSending l.links l.weights l.waits l.upstream;
-  inside : l.node < length l.links;
+invariant-downstream g l = record {
+  sending : IsSending (g.L.Links.list l.links) g.weights l.waits l.totals;
+  inside : l.node < length (g.L.Links.list l.links);
   early : (i : ℕ) → i < l.from + 1 → i ≢ l.node → get_or l.waits i 0 ≢ 0;
 }
 
 abbrev pub decreases-downstream : goal.decreases-downstream
-decreases-downstream l = unsent l.waits (length l.links)
+decreases-downstream g l = unsent l.waits (length (g.L.Links.list l.links))

@@ -1,6 +1,4 @@
-use Rattle.std.proofs.Common.{ℕ, List, length, subst, sym, ap, ◌∙◌, arith}
-use Rattle.flow.specs.Streams.{AreStreams}
-use Rattle.flow.specs.TileLinks.{rim_ends_by}
+use Rattle.std.proofs.Common.{arith}
 use Rattle.flow.proofs.Piece.{lists_made, piece, streams, few, lists_are, ends_are, exits_are}
 use Rattle.flow.proofs.tile.tile_exits.Goals as goal
 
@@ -9,29 +7,28 @@ rim_ends-requires-clause-streams c =
     let s = lists_made _ _ _ _ _ c.requires c.bounds-bounds.ensures.value
     c.bounds-bounds.ensures.inside c.bounds-bounds.ensures.lawful c.in_ok-cells.ensures
     c.deref.ensures.value c.in_ok-links.ensures in
-    subst (λ (l : List ℕ). AreStreams l) (sym c.deref-2.ensures.value) (streams _ _ _ _ _ s)
+    streams _ _ _ _ _ s
 
 pub rim_ends-requires-clause-few : goal.rim_ends-requires-clause-few
 rim_ends-requires-clause-few c =
     let s = lists_made _ _ _ _ _ c.requires c.bounds-bounds.ensures.value
     c.bounds-bounds.ensures.inside c.bounds-bounds.ensures.lawful c.in_ok-cells.ensures
     c.deref.ensures.value c.in_ok-links.ensures in
-    omega (arith, few _ _ _ _ _ s, ap length c.deref-2.ensures.value)
+    omega (arith, few _ _ _ _ _ s)
 
 pub rim_ends-requires-clause-size : goal.rim_ends-requires-clause-size
 rim_ends-requires-clause-size c =
     let s = lists_made _ _ _ _ _ c.requires c.bounds-bounds.ensures.value
     c.bounds-bounds.ensures.inside c.bounds-bounds.ensures.lawful c.in_ok-cells.ensures
     c.deref.ensures.value c.in_ok-links.ensures in
-    ap length c.deref-2.ensures.value ∙ (piece _ _ _ _ _ s).made.size
+    (piece _ _ _ _ _ s).made.size
 
 pub invariant_of-result : goal.invariant_of-result
 invariant_of-result c =
     let s = lists_made _ _ _ _ _ c.requires c.bounds-bounds.ensures.value
     c.bounds-bounds.ensures.inside c.bounds-bounds.ensures.lawful c.in_ok-cells.ensures
     c.deref.ensures.value c.in_ok-links.ensures in
-    lists_are _ _ _ _ _ s _ _ (c.in_ok-rim_ends.ensures
-    ∙ ap (rim_ends_by c.bounds-bounds.result) c.deref-2.ensures.value)
+    lists_are _ _ _ _ _ s _ _ c.in_ok-rim_ends.ensures
 
 pub returns : goal.returns
 returns c =

@@ -1,7 +1,6 @@
 use Rattle.std.proofs.Common.{◌≡◌, ℕ, ◌<◌, length, get_or, None, sym, ap, subst, ◌∙◌, arith}
 use Rattle.tiles.specs.Cutting.{IsInBounds, place_in, index_in}
 use Rattle.tiles.proofs.TileOrder.{index_in_below}
-use Rattle.flow.specs.Streams.{end_of}
 use Rattle.flow.specs.TileFlow.{Flow}
 use Rattle.flow.specs.TileLinks.{ends_by}
 use Rattle.flow.proofs.Listed.{made_at}
@@ -12,16 +11,15 @@ pub returns : goal.returns
 returns c =
     let b = c.self.inside.bounds in
     let cells = c.self.inside.codes.items in
-    let links = c.self.inside.links.items in
+    let links = c.self.inside.links in
     let i = index_in b c.args.place in
     let inside =
     subst (λ (f : Flow). IsInBounds f.bounds c.args.place) (sym c.self.view_is) c.requires in
     let below : index_in c.self.inside.bounds c.args.place < length c.self.inside.codes.items =
     omega (arith, index_in_below b c.args.place inside, c.self.invariant.lawful.codes_size) in
     let end : c.end_in-end.result
-    ≡ get_or (ends_by c.self.inside.links.items) (index_in c.self.inside.bounds c.args.place) 0 =
-    c.end_in-end.ensures ∙ ap (λ l. end_of l (index_in c.self.inside.bounds c.args.place))
-    c.deref.ensures.value ∙ end_listed _ _ _ _ _ c.self.invariant i below in
+    ≡ get_or (ends_by c.self.inside.links) (index_in c.self.inside.bounds c.args.place) 0 =
+    c.end_in-end.ensures ∙ end_listed _ _ _ _ _ c.self.invariant i below in
     subst (λ (f : Flow). c.where_data.result
     ≡ get_or f.exits (index_in f.bounds c.args.place) None) c.self.view_is
     (c.where_data.ensures

@@ -12,7 +12,7 @@ pub bounds-ends-index : goal.bounds-ends-index
 bounds-ends-index c =
     let b = c.self.inside.bounds in
     let cells = c.self.inside.codes.items in
-    let links = c.self.inside.links.items in
+    let links = c.self.inside.links in
     let seen = ap (λ (f : Flow). length f.exits) c.self.view_is in
     let are = ends_seen _ _ _ _ _ c.self.invariant _ c.self.view_is _ c.requires.ends in
     omega (
@@ -28,7 +28,7 @@ pub returns-clause-value : goal.returns-clause-value
 returns-clause-value c =
     let b = c.self.inside.bounds in
     let cells = c.self.inside.codes.items in
-    let links = c.self.inside.links.items in
+    let links = c.self.inside.links in
     let i = c.args.index in
     let seen = ap (λ (f : Flow). length f.exits) c.self.view_is in
     let below : c.args.index < length c.self.inside.codes.items =
@@ -36,11 +36,11 @@ returns-clause-value c =
     let code = c.index.ensures ∙ get_or_default cells i c.index.result.now None below in
     let are = ends_seen _ _ _ _ _ c.self.invariant _ c.self.view_is _ c.requires.ends in
     let end : get_or c.args.ends.now c.args.index 0
-    ≡ get_or (ends_by c.self.inside.links.items) c.args.index 0 =
+    ≡ get_or (ends_by c.self.inside.links) c.args.index 0 =
     are.each i (omega (arith, below, as_many_links _ _ _ _ _ c.self.invariant))
     ∙ end_listed _ _ _ _ _ c.self.invariant i below in
     subst (λ (f : Flow). c.where_data.result
     ≡ option_map (index_in f.bounds) (get_or f.exits c.args.index None)) c.self.view_is
     (c.where_data.ensures ∙ ap (λ n. where_data c.index.result.now n) end
-    ∙ ap (λ o. where_data o (get_or (ends_by c.self.inside.links.items) c.args.index 0)) code
+    ∙ ap (λ o. where_data o (get_or (ends_by c.self.inside.links) c.args.index 0)) code
     ∙ exit_index_is b cells (ends_by links) i below)

@@ -1,0 +1,213 @@
+-- A cell's move leads to the cell to which the cell is linked. So the moves of all cells lead along
+-- the tile's links.
+use Rattle.std.proofs.Common.{◌≡◌, ℕ, ◌+◌, ◌-◌, ◌*◌, ◌/◌, ◌%◌, ◌^◌, ◌<◌, ◌≤◌, inl, inr, List, [], ◌∷◌, length, get_or, Option, None, Some, unwrap_or, false, cond, sym, ap, subst, refl, ◌∙◌, arith}
+use Rattle.std.specs.Option.{option_and_then}
+use Rattle.std.proofs.Math.Nat.{mul-le-mul}
+use Rattle.std.proofs.lemmas.Bool.{cases_Bool, cases_lt, cond-true, cond-false}
+use Rattle.std.proofs.lemmas.Grind.{same_number_lists}
+use Rattle.std.proofs.lemmas.List.{get_or_default, get_or_past}
+use Rattle.std.proofs.lemmas.List.FromFn.{get_or-map-range_with_len, length-map-range_with_len}
+use Rattle.std.proofs.lemmas.Nat.{div-mul-add, mod-mul-add}
+use Rattle.std.proofs.lemmas.Option.{none-some}
+use Rattle.terrain.specs.Neighbours.{Touches}
+use Rattle.terrain.specs.Ways.{way_of, ways_from, place_on, place_toward, around_index}
+use Rattle.terrain.specs.declared.place.Place.{Place}
+use Rattle.terrain.proofs.Options.{cases_option}
+use Rattle.terrain.proofs.Places.{make_place}
+use Rattle.terrain.proofs.EightWays.{Touches-from_ways, eight, on_ways}
+use Rattle.tiles.specs.declared.bounds.Bounds.{Bounds}
+use Rattle.tiles.specs.Cutting.{longest_axis, IsInBounds, is_in_bounds, index_in, place_in}
+use Rattle.tiles.proofs.Cut.{in_bounds_from, in_bounds_parts}
+use Rattle.tiles.proofs.TileOrder.{index_in_below, index_in-place_in}
+use Rattle.flow.specs.TileLinks.{IsInteriorAt, EndsInLargestGrid, link_by, links_by, reach, moved_by, AreMoves, IsMove, AreFirstMoves}
+use Rattle.flow.proofs.Listed.{place_in_row}
+
+toward_touches : (p q : Place) (code : ℕ) → place_toward code p ≡ Some q → Touches p q
+toward_touches p q code e = elim (cases_option (way_of code)) [
+  | inl none ↦ absurd (none-some q
+      (sym (ap (λ (o : Option ℕ). option_and_then (λ way. place_on way p) o) none) ∙ e))
+  | inr way ↦ (let at : get_or (ways_from p) way.0 None ≡ Some q =
+      sym (ap (λ (o : Option ℕ). option_and_then (λ way. place_on way p) o) way.1) ∙ e in
+      elim (cases_lt way.0 8) [
+        | inl below ↦ (Touches-from_ways p q
+            (way.0, below, get_or_default (ways_from p) way.0 (Some q) None below ∙ at)).0
+        | inr far ↦ absurd (none-some q (sym (get_or_past (ways_from p) way.0 None far) ∙ at))
+      ])
+]
+
+-- The place to which a code leads from p; p if it leads to none.
+abbrev pub led : Place → Option ℕ → Place
+led p code = unwrap_or (option_and_then (λ c. place_toward c p) code) p
+
+touches_self : (p : Place) → Touches p p
+touches_self p =
+    record { row_down = omega arith; row_up = omega arith; col_right = omega arith; col_left = omega arith }
+
+pub next_touches : (p : Place) (code : Option ℕ) → Touches p (led p code)
+next_touches p None = touches_self p
+next_touches p (Some c) = elim (cases_option (place_toward c p)) [
+  | inl none ↦ subst (λ (o : Option Place). Touches p (unwrap_or o p)) (sym none) (touches_self p)
+  | inr q ↦ subst (λ (o : Option Place). Touches p (unwrap_or o p)) (sym q.1) (toward_touches p q.0 c q.1)
+]
+
+pub few_cells : (b : Bounds) → b.top + b.rows ≤ longest_axis → b.left + b.cols ≤ longest_axis →
+    b.rows * b.cols ≤ 2 ^ 24
+few_cells b rows cols =
+    let r : b.rows ≤ 4096 = omega (arith, rows) in
+    let k : b.cols ≤ 4096 = omega (arith, cols) in
+    let most : b.rows * b.cols ≤ 4096 * 4096 = mul-le-mul r k in
+    omega arith
+
+module _ (b : Bounds) (i : ℕ) (p : Place) (at : p ≡ place_in b i) (code : Option ℕ) (q : Place)
+    (is : q ≡ led p code) where
+  linked : link_by b i code ≡ cond {A = ℕ} (is_in_bounds b q) (index_in b q) i
+  linked = sym (ap (λ (z : Place). cond {A = ℕ} (is_in_bounds b z) (index_in b z) i)
+      (is ∙ ap (λ (z : Place). led z code) at))
+
+  link_inside : IsInBounds b q → link_by b i code ≡ index_in b q
+  link_inside inside = linked ∙ cond-true _ _ _ (in_bounds_from b q inside)
+
+  pub stay_outside : is_in_bounds b q ≡ false → IsMove b i code 5
+  stay_outside out = omega (arith, linked ∙ cond-false {A = ℕ} _ (index_in b q) i out)
+
+  pub stay_at : q ≡ p → IsMove b i code 5
+  stay_at same = elim (cases_Bool (is_in_bounds b q)) [
+    | inl y ↦ omega (
+      arith,
+      link_inside (in_bounds_parts b q y),
+      ap (index_in b) (same ∙ at),
+      index_in-place_in b i,
+    )
+    | inr out ↦ stay_outside out
+  ]
+
+  pub down_few : (q.row + 1 - p.row ≤ 2) × (p.row ≤ q.row + 1)
+  down_few = let t = subst (λ (z : Place). Touches p z) (sym is) (next_touches p code) in
+      (omega (arith, t.row_down), t.row_up)
+
+  pub right_few : (q.col + 1 - p.col ≤ 2) × (p.col ≤ q.col + 1)
+  right_few = let t = subst (λ (z : Place). Touches p z) (sym is) (next_touches p code) in
+      (omega (arith, t.col_right), t.col_left)
+
+  pub moves_there : IsInBounds b p → IsInBounds b q →
+      IsMove b i code (4 * (q.row + 1 - p.row) + (q.col + 1 - p.col))
+  moves_there here inside =
+      let parts : 4 * (q.row + 1 - p.row) + (q.col + 1 - p.col) ≡ (q.row + 1 - p.row) * 4 + (q.col + 1 - p.col) = omega arith in
+      let down : (4 * (q.row + 1 - p.row) + (q.col + 1 - p.col)) / 4 ≡ q.row + 1 - p.row =
+      ap (λ (n : ℕ). n / 4) parts
+      ∙ div-mul-add (q.row + 1 - p.row) 4 (q.col + 1 - p.col) (omega (arith, right_few)) in
+      let rows : q.row - b.top + 1 ≡ p.row - b.top + (q.row + 1 - p.row) = omega (arith, down_few) in
+      omega (
+        arith,
+        ap (λ (n : ℕ). n * b.cols) down,
+        ap (λ (n : ℕ). n % 4) parts ∙ mod-mul-add (q.row + 1 - p.row) 4 (q.col + 1 - p.col)
+            (omega (arith, right_few)),
+        right_few,
+        strides (p.row - b.top) (q.row - b.top) (q.row + 1 - p.row) b.cols rows,
+        sym (index_in-place_in b i) ∙ ap (index_in b) (sym at),
+        link_inside inside,
+      )
+    where
+      strides : (x y d c : ℕ) → y + 1 ≡ x + d → y * c + c ≡ x * c + d * c
+      strides x y d c e = omega (arith, ap (λ (n : ℕ). n * c) e)
+
+-- The moves of the eight directions.
+abbrev pub way_moves : List ℕ
+way_moves = 6 ∷ 10 ∷ 9 ∷ 8 ∷ 4 ∷ 0 ∷ 1 ∷ 2 ∷ []
+
+way_reach : (cols i way : ℕ) → way < 8 → cols + 1 ≤ i →
+    reach cols i (get_or way_moves way 0) ≡ get_or (around_index cols i) way 0 + (cols + 1)
+way_reach cols i way below high = eight (λ way. reach cols i (get_or way_moves way 0)
+    ≡ get_or (around_index cols i) way 0 + (cols + 1))
+    (omega arith) (omega arith) (omega arith) (omega arith) (omega arith) (omega arith) (omega arith) (omega arith)
+    way below
+
+module _ (b : Bounds) (r k : ℕ) (interior : IsInteriorAt b r k) where
+  abbrev here : Place
+  here = make_place (b.top + r) (b.left + k)
+
+  here_is : here ≡ place_in b (r * b.cols + k)
+  here_is = sym (place_in_row b r k (omega (arith, interior.last_col)))
+
+  at_here : r * b.cols + k ≡ (b.top + r - b.top) * b.cols + (b.left + k - b.left)
+  at_here = let row : b.top + r - b.top ≡ r = omega arith in
+      omega (arith, ap (λ (n : ℕ). n * b.cols) row)
+
+  past_first : b.cols + 1 ≤ r * b.cols + k
+  past_first =
+      let more : 1 * b.cols ≤ r * b.cols = mul-le-mul (omega (arith, interior.first_row)) (omega arith) in
+      omega (arith, interior.first_col)
+
+  pub stays_interior : (code : Option ℕ) → option_and_then (λ c. place_toward c here) code ≡ None →
+      IsMove b (r * b.cols + k) code 5
+  stays_interior code none = stay_at b (r * b.cols + k) here here_is code (led here code) refl
+      (ap (λ (o : Option Place). unwrap_or o here) none)
+
+  pub goes_on_way : (n way : ℕ) → way_of n ≡ Some way → way < 8 →
+      IsMove b (r * b.cols + k) (Some n) (get_or way_moves way 0)
+  goes_on_way n way is below =
+      let q = on_ways b.top b.left b.cols (r * b.cols + k) here (b.top + r - 1) (b.left + k - 1)
+      (omega (arith, interior.first_row)) (omega (arith, interior.first_col))
+      (omega (arith, interior.first_row)) (omega (arith, interior.first_col)) at_here way below in
+      way_reach b.cols (r * b.cols + k) way below past_first
+      ∙ ap (λ (n : ℕ). n + (b.cols + 1)) (sym q.1.index
+      ∙ sym (link_inside b (r * b.cols + k) here here_is (Some n) q.0
+      (sym (ap (λ (o : Option ℕ). unwrap_or (option_and_then (λ way. place_on way here) o) here) is
+      ∙ ap (λ (o : Option Place). unwrap_or o here) q.1.on)) (
+        omega (arith, interior.first_row, q.1.touches.row_up),
+        omega (arith, interior.last_row, q.1.touches.row_down),
+        omega (arith, interior.first_col, q.1.touches.col_left),
+        omega (arith, interior.last_col, q.1.touches.col_right),
+      )))
+
+link_below : (b : Bounds) (i : ℕ) (code : Option ℕ) → i < b.rows * b.cols →
+    link_by b i code < b.rows * b.cols
+link_below b i code h =
+    let q = led (place_in b i) code in
+    elim (cases_Bool (is_in_bounds b (led (place_in b i) code))) [
+      | inl y ↦ omega (
+        arith,
+        cond-true {A = ℕ} _ (index_in b q) i y,
+        index_in_below b q (in_bounds_parts b q y),
+      )
+      | inr n ↦ omega (arith, cond-false {A = ℕ} _ (index_in b q) i n, h)
+    ]
+
+module _ (b : Bounds) (cells : List (Option ℕ)) (moves : List ℕ) (small : EndsInLargestGrid b)
+    (s : AreFirstMoves b cells (b.rows * b.cols) moves) where
+  pub moves_fit : AreMoves b.cols moves
+  moves_fit = record {
+    low = λ i h. omega (arith, s.each i h);
+    high = λ i h. omega (
+      arith,
+      s.each i h,
+      link_below b i (get_or cells i None) (omega (arith, h, s.size)),
+      few_cells b small.few_rows small.few_cols,
+      small.few_cols,
+    );
+  }
+
+  pub moved_links : moved_by b.cols moves ≡ links_by b cells
+  moved_links =
+      let there : ℕ → ℕ = λ i. reach b.cols i (get_or moves i 0) - (b.cols + 1) in
+      let link : ℕ → ℕ = λ i. link_by b i (get_or cells i None) in
+      let made : length (moved_by b.cols moves) ≡ length moves =
+      length-map-range_with_len there 0 (length moves) in
+      same_number_lists _ _ (made ∙ s.size ∙ sym (length-map-range_with_len link 0 (b.rows * b.cols)))
+      (λ i h. (let below : i < b.rows * b.cols = omega (arith, h, made, s.size) in omega (
+        arith,
+        get_or-map-range_with_len there 0 (length moves) i i 0 (omega (arith, h, made)) (omega arith),
+        get_or-map-range_with_len link 0 (b.rows * b.cols) i i 0 below (omega arith),
+        s.each i (omega (arith, below, s.size)),
+      )))
+
+-- What is read for a cell leads to the cell's link.
+pub next_read : (cols : ℕ) (moves links : List ℕ) (i : ℕ) → moved_by cols moves ≡ links →
+    i < length links → (i < length moves) × (reach cols i (get_or moves i 0) - (cols + 1) ≡ get_or links i 0)
+next_read cols moves links i seen h =
+    let there : ℕ → ℕ = λ i. reach cols i (get_or moves i 0) - (cols + 1) in
+    let below : i < length moves = omega (arith, ap length seen, length-map-range_with_len there 0 (length moves)) in (
+      below,
+      sym (get_or-map-range_with_len there 0 (length moves) i i 0 below (omega arith))
+          ∙ ap (λ (l : List ℕ). get_or l i 0) seen,
+    )
