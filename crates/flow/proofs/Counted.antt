@@ -1,9 +1,9 @@
 -- The counts that a tile's job makes from flow and inflows are the accumulations of the tile's
 -- data cells; entries are `None` at NODATA.
-use Rattle.std.proofs.Common.{◌≡◌, ℕ, ◌-◌, ◌<◌, ◌≤◌, inl, inr, List, length, get_or, cond, Option, None, Some, is_some, slice_get, sym, ap, subst, refl, ◌∙◌, arith}
+use Rattle.std.proofs.Common.{◌≡◌, ℕ, ◌+◌, ◌-◌, ◌<◌, ◌≤◌, List, length, get_or, cond, Option, None, Some, is_some, slice_get, sym, ap, subst, refl, ◌∙◌, arith}
+use Rattle.std.specs.Prelude.{map, slice_index}
+use Rattle.std.specs.List.{range_with_len}
 use Rattle.std.proofs.Math.ListN.{length-map}
-use Rattle.std.proofs.lemmas.Bool.{cases_lt, cases_Bool, cond-true, cond-false}
-use Rattle.std.proofs.lemmas.List.{get_or-map, get_or_past}
 use Rattle.std.proofs.lemmas.Option.{slice_get_within}
 use Rattle.std.proofs.lemmas.List.FromFn.{get_or-map-range_with_len, length-map-range_with_len}
 use Rattle.terrain.specs.declared.place.Place.{Place}
@@ -19,35 +19,14 @@ use Rattle.flow.specs.TileLinks.{AreTileCodes, links_by, weights_by, where_data}
 use Rattle.flow.specs.Whole.{IsGridFlow, make_directed}
 use Rattle.flow.specs.Inflows.{Inflows, AreInflows, listed_inflow}
 use Rattle.flow.specs.RimGraph.{AreFlowsOf}
-use Rattle.flow.specs.Counting.{IsCounting, IsCountable, AreCountable, AreRimWeights, AreCounts, counts_by}
+use Rattle.flow.specs.Counting.{IsCounting, IsCountable, AreCountable, AreInflowWeights, AreCounts}
 use Rattle.flow.proofs.Coded.{IsCoded}
 use Rattle.flow.proofs.InTile.{weight_in, IsPiece, tile_streams, in_place}
-use Rattle.flow.proofs.Piece.{codes_from, AreLists, piece, few, weights_from, match_data}
+use Rattle.flow.proofs.Piece.{codes_from, AreLists, piece, few, weights_from, count_entry, match_data}
 use Rattle.flow.proofs.Reaching.{IsEnding, ending_of}
 use Rattle.flow.proofs.DrainedCells.{all_drained, drained_few, entered_few, inflow_sum, accumulation_is}
 use Rattle.flow.proofs.TileTotals.{AreWeights, all_totals}
-use Rattle.flow.proofs.Totals.{total_is}
-
-pub weights_le : (cells : List (Option ℕ)) (i : ℕ) → get_or (weights_by cells) i 0 ≤ 1
-weights_le cells i = elim (cases_lt i (length cells)) [
-  | inl l ↦ elim (cases_Bool (is_some (get_or cells i None))) [
-    | inl y ↦ omega (
-      arith,
-      get_or-map (λ (code : Option ℕ). cond {A = ℕ} (is_some code) 1 0) cells i None 0 l,
-      cond-true {A = ℕ} _ 1 0 y,
-    )
-    | inr n ↦ omega (
-      arith,
-      get_or-map (λ (code : Option ℕ). cond {A = ℕ} (is_some code) 1 0) cells i None 0 l,
-      cond-false {A = ℕ} _ 1 0 n,
-    )
-  ]
-  | inr far ↦ omega (
-    arith,
-    get_or_past (weights_by cells) i 0
-        (omega (arith, length-map cells (λ (code : Option ℕ). cond {A = ℕ} (is_some code) 1 0))),
-  )
-]
+use Rattle.flow.proofs.Totals.{total_is, totals_add}
 
 pub weights_size : (cells : List (Option ℕ)) → length (weights_by cells) ≡ length cells
 weights_size cells = length-map cells (λ (code : Option ℕ). cond {A = ℕ} (is_some code) 1 0)
@@ -125,9 +104,18 @@ module _ (t : Cutting) (codes : List (Option ℕ)) (flows : List Flow) (inflows 
       same_sizes = piece_of.made.size ∙ sym of_cells.size
 
       module _ (weights : List ℕ)
-          (weighed : AreRimWeights inflows (bounds_of t tile) f.codes weights) where
+          (weighed : AreInflowWeights inflows (bounds_of t tile) weights) where
+        abbrev both : List ℕ
+        both = map (λ i. get_or (weights_by f.codes) i 0 + get_or weights i 0)
+            (range_with_len 0 (length links))
+
+        both_at : (i : ℕ) → i < length links →
+            get_or both i 0 ≡ get_or (weights_by f.codes) i 0 + get_or weights i 0
+        both_at i h = get_or-map-range_with_len (λ i. get_or (weights_by f.codes) i 0 + get_or weights i 0) 0
+            (length links) i i 0 h (omega arith)
+
         weights_are : AreWeights (make_directed t.cols t.rows codes) ending t tile
-            (bounds_of t tile) links piece_of weights
+            (bounds_of t tile) links piece_of both
         weights_are j h =
             let inside = in_place (make_directed t.cols t.rows codes) t tile
             (bounds_of t tile) links piece_of j h in
@@ -138,52 +126,42 @@ module _ (t : Cutting) (codes : List (Option ℕ)) (flows : List Flow) (inflows 
             (bounds_of t tile) f.codes of_cells).each j (omega (arith, h, piece_of.made.size)) in
             omega (
               arith,
+              both_at j h,
               weighed.each (place_in (bounds_of t tile) j) inside,
               ap (λ n. get_or weights n 0) index,
-              ap (λ n. get_or (weights_by f.codes) n 0) index,
               own,
               s.are_inflows.each (place_in (bounds_of t tile) j)
                   (within_tile (place_in (bounds_of t tile) j) inside),
             )
 
-        total_drained : (i : ℕ) → i < length links → total links weights i
+        total_drained : (i : ℕ) → i < length links →
+            total links (weights_by f.codes) i + total links weights i
             ≡ all_drained (make_directed t.cols t.rows codes) (place_in (bounds_of t tile) i)
-        total_drained = total_is links weights _ streams_of (all_totals (make_directed t.cols t.rows
-            codes) ending t tile (bounds_of t tile) links piece_of weights weights_are)
+        total_drained i h = omega (
+          arith,
+          totals_add links (weights_by f.codes) weights both streams_of both_at i h,
+          total_is links both _ streams_of (all_totals (make_directed t.cols t.rows codes) ending t
+              tile (bounds_of t tile) links piece_of both weights_are) i h,
+        )
 
-        module _ (totals : List ℕ) (summed : AreSums links weights totals) where
-          entry_is : (p : Place) → IsInBounds (bounds_of t tile) p →
-              get_or (counts_by f.codes totals) (index_in (bounds_of t tile) p) None
-              ≡ where_data (code_at (make_directed t.cols t.rows codes) p)
-              (get_or totals (index_in (bounds_of t tile) p) 0 - 1)
-          entry_is p h =
-              let i = index_in (bounds_of t tile) p in
-              let in_cells : index_in (bounds_of t tile) p < length f.codes =
-              omega (arith, index_in_below (bounds_of t tile) p h, of_cells.size) in
-              let code : get_or f.codes (index_in (bounds_of t tile) p) None
-              ≡ code_at (make_directed t.cols t.rows codes) p =
-              of_cells.each (index_in (bounds_of t tile) p) (index_in_below (bounds_of t tile) p h)
-              ∙ ap (code_at (make_directed t.cols t.rows codes))
-              (place_in-index_in (bounds_of t tile) p h) in
-              get_or-map-range_with_len (λ i. where_data (get_or f.codes i None)
-              (get_or totals i 0 - 1)) 0 (length f.codes) i i None in_cells (omega arith)
-              ∙ ap (λ o. where_data o (get_or totals i 0 - 1)) code
-
-          count_is : (p : Place) → IsInBounds (bounds_of t tile) p →
-              IsCoded (make_directed t.cols t.rows codes) p →
-              get_or totals (index_in (bounds_of t tile) p) 0 - 1
-              ≡ accumulation (make_directed t.cols t.rows codes) p
-          count_is p h is =
-              let at = place_in-index_in (bounds_of t tile) p h in
-              let there : index_in (bounds_of t tile) p < length links =
-              omega (arith, index_in_below (bounds_of t tile) p h, of_cells.size, same_sizes) in
-              omega (
-                arith,
-                summed.each (index_in (bounds_of t tile) p) there,
-                total_drained (index_in (bounds_of t tile) p) there,
-                ap (all_drained (make_directed t.cols t.rows codes)) at,
-                accumulation_is (make_directed t.cols t.rows codes) ending p is,
-              )
+        count_is : (totals added : List ℕ) → AreSums links (weights_by f.codes) totals →
+            AreSums links weights added → (p : Place) → IsInBounds (bounds_of t tile) p →
+            IsCoded (make_directed t.cols t.rows codes) p →
+            get_or totals (index_in (bounds_of t tile) p) 0
+            + get_or added (index_in (bounds_of t tile) p) 0 - 1
+            ≡ accumulation (make_directed t.cols t.rows codes) p
+        count_is totals added counted summed p h is =
+            let at = place_in-index_in (bounds_of t tile) p h in
+            let there : index_in (bounds_of t tile) p < length links =
+            omega (arith, index_in_below (bounds_of t tile) p h, of_cells.size, same_sizes) in
+            omega (
+              arith,
+              counted.each (index_in (bounds_of t tile) p) there,
+              summed.each (index_in (bounds_of t tile) p) there,
+              total_drained (index_in (bounds_of t tile) p) there,
+              ap (all_drained (make_directed t.cols t.rows codes)) at,
+              accumulation_is (make_directed t.cols t.rows codes) ending p is,
+            )
 
     countable : IsCountable inflows tile f
     countable =
@@ -209,7 +187,7 @@ module _ (t : Cutting) (codes : List (Option ℕ)) (flows : List Flow) (inflows 
           totals_fit = λ weights weighed i h. omega (
             arith,
             total_drained (links_by f.bounds f.codes) made weights
-                (subst (λ (x : Cutting). AreRimWeights inflows (bounds_of x tile) f.codes weights)
+                (subst (λ (x : Cutting). AreInflowWeights inflows (bounds_of x tile) weights)
                 s.are_inflows.cutting weighed) i
                 (omega (arith, h, same_sizes (links_by f.bounds f.codes) made)),
             drained_few (make_directed t.cols t.rows codes) ending (place_in (bounds_of t tile) i),
@@ -225,14 +203,16 @@ module _ (t : Cutting) (codes : List (Option ℕ)) (flows : List Flow) (inflows 
         let h = in_bounds t tile p s.are_flows.cutting i in
         let made : links_by f.bounds f.codes ≡ links_by (bounds_of t tile) f.codes =
         ap (λ (b : Bounds). links_by b f.codes) right.bounds in
-        let weighed = subst (λ (x : Cutting). AreRimWeights inflows
-        (bounds_of x tile) f.codes are.weights) s.are_inflows.cutting are.weighed in
+        let weighed = subst (λ (x : Cutting). AreInflowWeights inflows (bounds_of x tile) are.weights)
+        s.are_inflows.cutting are.weighed in
+        let links = links_by f.bounds f.codes in
         match_data (code_at (make_directed t.cols t.rows codes) p) _ _ _
         (tile_entry-in t tile values p i
         ∙ ap (λ (l : List (Option ℕ)). get_or l (index_in (bounds_of t tile) p) None) are.made
-        ∙ entry_is (links_by f.bounds f.codes) made are.weights weighed are.totals are.summed p h)
-        (λ code is. count_is (links_by f.bounds f.codes)
-        made are.weights weighed are.totals are.summed p h (record { code = code; is = is }))
+        ∙ count_entry _ _ _ _ _ (lists links made)
+        (λ i. slice_index are.totals i + slice_index are.added i) p h)
+        (λ code is. count_is links made are.weights weighed are.totals are.added are.counted
+        are.summed p h (record { code = code; is = is }))
 
   pub countable_all : AreCountable t flows inflows
   countable_all = record {
@@ -245,4 +225,4 @@ pub counts_size : (inflows : Inflows) (tile : ℕ) (f : Flow) (values : List (Op
     AreCounts inflows tile f values → length values ≡ length f.codes
 counts_size inflows tile f values are =
     ap length are.made ∙ length-map-range_with_len (λ i. where_data (get_or f.codes i None)
-    (get_or are.totals i 0 - 1)) 0 (length f.codes)
+    (get_or are.totals i 0 + get_or are.added i 0 - 1)) 0 (length f.codes)

@@ -1,18 +1,18 @@
 -- Entry i of a tile's counts or exits is the value at cell i, `None` at NODATA. Entry i of the
 -- exit numbers is the number of the outlet of cell i if cell i is an exit, else 0. The codes of the
 -- tile's rows, appended row by row, are the tile's codes.
-use Rattle.std.proofs.Common.{◌≡◌, ℕ, ◌<◌, ◌≤◌, List, length, get_or, map, Option, None, Some, IfSome, sym, ap, subst, refl, ◌∙◌, arith, ◌+◌, ◌-◌, ◌*◌, inl, inr, ◌++◌}
+use Rattle.std.proofs.Common.{◌≡◌, ℕ, ◌<◌, List, length, get_or, map, Option, None, Some, IfSome, sym, ap, subst, refl, ◌∙◌, arith, ◌+◌, ◌-◌, ◌*◌, inl, inr, ◌++◌}
 use Rattle.std.specs.List.{range_with_len}
 use Rattle.std.specs.Option.{option_map}
 use Rattle.std.proofs.lemmas.Bool.{cond-true, cond-false, eq-eqb, ne_eqb, cases_lt}
 use Rattle.std.proofs.lemmas.Option.{none-some, same_Some}
-use Rattle.std.proofs.lemmas.List.{get_or_default, get_or_past, length-append, get_or_append_left, get_or-append_right}
+use Rattle.std.proofs.lemmas.List.{get_or_default, length-append, get_or_append_left, get_or-append_right}
 use Rattle.std.proofs.lemmas.List.FromFn.{get_or-map-range_with_len, length-map-range_with_len}
 use Rattle.terrain.specs.declared.place.Place.{Place}
 use Rattle.tiles.specs.declared.bounds.Bounds.{Bounds}
 use Rattle.tiles.proofs.TileOrder.{index_in-place_in, place_in-index_in}
 use Rattle.flow.specs.TileFlow.{Flow, directed_by}
-use Rattle.flow.specs.TileLinks.{where_data, through_list, exits_by}
+use Rattle.flow.specs.TileLinks.{where_data, exits_by}
 use Rattle.flow.specs.RimGraph.{Outlets, listed_outlet}
 use Rattle.flow.specs.Numbering.{EndNumbers, IsNumberedPlace, number_at, exit_number_by}
 use Rattle.std.proofs.Math.Nat.{suc-mul}
@@ -32,16 +32,6 @@ made_at cells value n i code x inside h read same =
     ∙ ap (where_data (get_or cells i None)) same
     ∙ sym (get_or-map-range_with_len
     (λ i. where_data (get_or cells i None) (value i)) 0 n i i None h (omega arith))
-
-pub through_past : (cells : List (Option ℕ)) (totals : List ℕ) (i : ℕ) → length totals ≤ i →
-    get_or (through_list cells totals) i None ≡ None
-through_past cells totals i past =
-    get_or_past (through_list cells totals) i None (omega (
-      arith,
-      past,
-      length-map-range_with_len (λ i. where_data (get_or cells i None) (get_or totals i 0 - 1)) 0
-          (length totals),
-    ))
 
 pub exits_size : (b : Bounds) (cells : List (Option ℕ)) (ends : List ℕ) →
     length (exits_by b cells ends) ≡ length cells

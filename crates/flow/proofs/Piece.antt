@@ -1,5 +1,6 @@
 -- The lists made for a tile, of codes, links, sums and ends of paths, are the tile's flow.
 use Rattle.std.proofs.Common.{◌≡◌, ℕ, ◌-◌, ◌*◌, ◌^◌, ◌<◌, ◌≤◌, inl, inr, List, length, get_or, Option, None, Some, is_some, MatchOption, cond, sym, ap, subst, refl, ◌∙◌, arith}
+use Rattle.std.specs.Prelude.{slice_index}
 use Rattle.std.proofs.lemmas.Bool.{cond-true}
 use Rattle.std.proofs.Math.ListN.{length-map}
 use Rattle.std.proofs.lemmas.List.{get_or-map}
@@ -13,7 +14,7 @@ use Rattle.drainage.specs.Following.{Directed, code_at}
 use Rattle.drainage.specs.Drained.{AllFlowEnds}
 use Rattle.flow.specs.Streams.{AreStreams, AreSums, AreEnds, end_of, total}
 use Rattle.flow.specs.TileFlow.{Flow, directed_by, through_in, through_of, IsExitOf, IsFlow, IsTileExits, IsTileCounts}
-use Rattle.flow.specs.TileLinks.{link_by, AreTileCodes, EndsInLargestGrid, links_by, weights_by, where_data, through_list, ends_by, rim_ends_by, exits_by, flow_by, AreFlowLists}
+use Rattle.flow.specs.TileLinks.{link_by, AreTileCodes, EndsInLargestGrid, links_by, weights_by, where_data, counts_by, ends_by, rim_ends_by, exits_by, flow_by, AreFlowLists}
 use Rattle.flow.proofs.Totals.{total_is}
 use Rattle.flow.proofs.Reaching.{IsEnding, ending_of}
 use Rattle.flow.proofs.DrainedCells.{all_drained_inside, drained_inside_few, through_is as drained_inside_through}
@@ -54,8 +55,8 @@ ends_are links = record {
 }
 
 -- In the lists of one flow each cell has a link, and `ends_by` lists the ends of paths.
-module _ (b : Bounds) (cells : List (Option ℕ)) (links totals rim_ends : List ℕ)
-    (s : AreFlowLists b cells links totals rim_ends) where
+module _ (b : Bounds) (cells : List (Option ℕ)) (links rim_ends : List ℕ)
+    (s : AreFlowLists b cells links rim_ends) where
   pub as_many_links : length links ≡ length cells
   as_many_links = ap length s.linked ∙ length-map-range_with_len (λ i.
       link_by b i (get_or cells i None)) 0 (b.rows * b.cols) ∙ sym s.lawful.codes_size
@@ -64,7 +65,7 @@ module _ (b : Bounds) (cells : List (Option ℕ)) (links totals rim_ends : List 
   end_listed i h = sym ((ends_are links).each i (omega (arith, h, as_many_links)))
 
   -- Ends of paths along the links of a flow's codes are ends of paths along its list of links.
-  pub ends_seen : (f : Flow) → flow_by b cells totals (ends_by links) ≡ f → (ends : List ℕ) →
+  pub ends_seen : (f : Flow) → flow_by b cells (ends_by links) ≡ f → (ends : List ℕ) →
       AreEnds (links_by f.bounds f.codes) ends → AreEnds links ends
   ends_seen f seen ends are =
       subst (λ (l : List ℕ). AreEnds l ends) (sym s.linked)
@@ -162,19 +163,15 @@ module _ (v : View (Option ℕ)) (b : Bounds) (cells : List (Option ℕ)) (links
   code_is p h = s.codes.each (index_in b p) (index_in_below b p h)
       ∙ ap (code_at (directed_by v)) (place_in-index_in b p h)
 
+  pub count_entry : (totals : ℕ → ℕ) (p : Place) → IsInBounds b p →
+      get_or (counts_by cells totals) (index_in b p) None
+      ≡ where_data (code_at (directed_by v) p) (totals (index_in b p) - 1)
+  count_entry totals p h =
+      get_or-map-range_with_len (λ i. where_data (get_or cells i None) (totals i - 1)) 0 (length cells)
+      (index_in b p) (index_in b p) None (in_cells p h) (omega arith)
+      ∙ ap (λ o. where_data o (totals (index_in b p) - 1)) (code_is p h)
+
   module _ (totals : List ℕ) (summed : AreSums links weights totals) where
-    totals_size : length totals ≡ length cells
-    totals_size = summed.size ∙ sizes
-
-    through_is : (p : Place) → IsInBounds b p → entry_in b (through_list cells totals) p
-        ≡ where_data (code_at (directed_by v) p) (get_or totals (index_in b p) 0 - 1)
-    through_is p h =
-        entry_in-inside b (through_list cells totals) p h
-        ∙ get_or-map-range_with_len (λ i.
-        where_data (get_or cells i None) (get_or totals i 0 - 1)) 0 (length totals) (index_in b p)
-        (index_in b p) None (omega (arith, in_cells p h, totals_size)) (omega arith)
-        ∙ ap (λ o. where_data o (get_or totals (index_in b p) 0 - 1)) (code_is p h)
-
     count_of : (p : Place) → IsInBounds b p → IsCoded (directed_by v) p →
         get_or totals (index_in b p) 0 - 1 ≡ through_of (directed_by v) v.cutting p
     count_of p h is =
@@ -188,6 +185,22 @@ module _ (v : View (Option ℕ)) (b : Bounds) (cells : List (Option ℕ)) (links
           drained_inside_through (directed_by v) ending v.cutting (place_in b (index_in b p)) there,
         )
         ∙ ap (through_of (directed_by v) v.cutting) at
+
+    pub counts_are : (f : Flow) → f.bounds ≡ b → f.through ≡ counts_by cells (slice_index totals) →
+        IsTileCounts (directed_by v) v.cutting v.tile f
+    counts_are f same through = record {
+      size = ap length through ∙ length-map-range_with_len (λ i. where_data (get_or cells i None)
+          (get_or totals i 0 - 1)) 0 (length cells) ∙ s.codes.size
+          ∙ sym (ap (λ (z : Bounds). z.rows * z.cols) same);
+      each = λ p i. (let h = (piece.places p).0 i in
+          let entry : through_in f p ≡ entry_in b (counts_by cells (slice_index totals)) p =
+          ap (λ (z : Bounds). entry_in z f.through p) same
+          ∙ ap (λ (l : List (Option ℕ)). entry_in b l p) through in
+          match_data (code_at (directed_by v) p) _ _ _
+          (entry ∙ entry_in-inside b (counts_by cells (slice_index totals)) p h
+          ∙ count_entry (slice_index totals) p h)
+          (λ code is. count_of p h (record { code = code; is = is })));
+    }
 
   module _ (ends : List ℕ) (last : AreEnds links ends) where
     exit_entry : (p : Place) → IsInBounds b p → entry_in b (exits_by b cells ends) p
@@ -210,8 +223,8 @@ module _ (v : View (Option ℕ)) (b : Bounds) (cells : List (Option ℕ)) (links
         (subst (λ n. IsExitOf (directed_by v) v.cutting (place_in b (index_in b p)) (place_in b n))
         (sym (last.each (index_in b p) i)) e)
 
-    pub flow_lawful : (totals : List ℕ) → IsFlow (flow_by b cells totals ends)
-    flow_lawful totals =
+    flow_lawful : IsFlow (flow_by b cells ends)
+    flow_lawful =
         let small = bounds_end_in_grid v.cutting b s.lawful.cutting s.inside in
         record {
           some_col = small.some_col;
@@ -222,11 +235,10 @@ module _ (v : View (Option ℕ)) (b : Bounds) (cells : List (Option ℕ)) (links
               (place_in b (get_or ends i 0))) 0 (length cells) ∙ s.codes.size;
         }
 
-    pub exits_are : (totals : List ℕ) →
-        IsTileExits (directed_by v) v.cutting v.tile (flow_by b cells totals ends)
-    exits_are totals = record {
+    pub exits_are : IsTileExits (directed_by v) v.cutting v.tile (flow_by b cells ends)
+    exits_are = record {
       bounds = s.bounds;
-      lawful = flow_lawful totals;
+      lawful = flow_lawful;
       same_codes =
           λ p i. (let h = (piece.places p).0 i in entry_in-inside b cells p h ∙ code_is p h);
       each = λ p i. (let h = (piece.places p).0 i in
@@ -242,28 +254,13 @@ module _ (v : View (Option ℕ)) (b : Bounds) (cells : List (Option ℕ)) (links
           ]);
     }
 
-  pub lists_are : (totals rim_ends : List ℕ) → rim_ends ≡ rim_ends_by b links →
-      AreFlowLists b cells links totals rim_ends
-  lists_are totals rim_ends rim = record {
+  pub lists_are : (rim_ends : List ℕ) → rim_ends ≡ rim_ends_by b links →
+      AreFlowLists b cells links rim_ends
+  lists_are rim_ends rim = record {
     linked = s.made;
-    lawful = flow_lawful (ends_by links) (ends_are links) totals;
+    lawful = flow_lawful (ends_by links) (ends_are links);
     streams = streams;
     rim = rim;
-  }
-
-  pub counts_are : (totals : List ℕ) → AreSums links weights totals →
-      (f : Flow) → f.bounds ≡ b → f.through ≡ through_list cells totals →
-      IsTileCounts (directed_by v) v.cutting v.tile f
-  counts_are totals summed f same through = record {
-    size = ap length through ∙ length-map-range_with_len (λ i. where_data (get_or cells i None)
-        (get_or totals i 0 - 1)) 0 (length totals) ∙ totals_size totals summed ∙ s.codes.size
-        ∙ sym (ap (λ (z : Bounds). z.rows * z.cols) same);
-    each = λ p i. (let h = (piece.places p).0 i in
-        let entry : through_in f p ≡ entry_in b (through_list cells totals) p =
-        ap (λ (z : Bounds). entry_in z f.through p) same
-        ∙ ap (λ (l : List (Option ℕ)). entry_in b l p) through in
-        match_data (code_at (directed_by v) p) _ _ _ (entry ∙ through_is totals summed p h)
-        (λ code is. count_of totals summed p h (record { code = code; is = is })));
   }
 
 pub codes_from : (d : Directed) (t : Cutting) (tile : ℕ) (f : Flow) → IsCutting t →
@@ -281,21 +278,14 @@ codes_from d t tile f cutting below right = record {
       sym entry ∙ right.same_codes (place_in (bounds_of t tile) i) inside;
 }
 
--- If the flow made of codes and ends has the exits of a view's tile, then the codes, their links
--- and their weights are those of the tile.
-pub lists_seen : (v : View (Option ℕ)) (b : Bounds) (cells : List (Option ℕ))
-    (totals ends links : List ℕ) (f : Flow) → flow_by b cells totals ends ≡ f →
-    IsTileExits (directed_by v) v.cutting v.tile f →
-    AllFlowEnds (directed_by v) → IsView v → links ≡ links_by b cells →
-    AreLists v b cells links (weights_by cells)
-lists_seen v b cells totals ends links f seen are flow_ends lawful made =
-    let right =
-    subst (λ (z : Flow). IsTileExits (directed_by v) v.cutting v.tile z) (sym seen) are in
-    lists_made v b cells cells links flow_ends right.bounds
+-- The codes of a flow with the exits of a view's tile, their links and weights are the tile's.
+pub lists_seen : (v : View (Option ℕ)) (f : Flow) →
+    IsTileExits (directed_by v) v.cutting v.tile f → AllFlowEnds (directed_by v) → IsView v →
+    AreLists v f.bounds f.codes (links_by f.bounds f.codes) (weights_by f.codes)
+lists_seen v f right ends lawful = lists_made v f.bounds f.codes f.codes (links_by f.bounds f.codes) ends right.bounds
     (subst (λ (z : Bounds). AreBounds v.cutting z) (sym right.bounds)
     (bounds_inside v.cutting v.tile lawful.cutting lawful.tile)) lawful
-    (codes_from (directed_by v) v.cutting v.tile
-    (flow_by b cells totals ends) lawful.cutting lawful.tile right) refl made
+    (codes_from (directed_by v) v.cutting v.tile f lawful.cutting lawful.tile right) refl refl
 
 -- Replacing the counts of a flow keeps its exits.
 pub exits_kept : (d : Directed) (t : Cutting) (tile : ℕ) (f : Flow) (through : List (Option ℕ)) →

@@ -5,7 +5,7 @@ use Rattle.std.proofs.Common.{◌≡◌, ◌≢◌, ℕ, zero, suc, ◌+◌, ◌
 use Rattle.std.specs.Option.{option_and_then}
 use Rattle.std.proofs.lemmas.Bool.{cases_eq, cases_Bool, eqb-true, cond-true, cond-false, false_from_ne_true, false≢true}
 use Rattle.std.proofs.lemmas.List.FromFn.{get_or-map-range_with_len, length-map-range_with_len}
-use Rattle.std.proofs.lemmas.Option.{slice_get_cases, slice_get_read, slice_get_within, MatchOption-at_none, MatchOption-at_some, none-some, same_Some}
+use Rattle.std.proofs.lemmas.Option.{slice_get_cases, slice_get_within, MatchOption-at_none, MatchOption-at_some, none-some, same_Some}
 use Rattle.terrain.specs.Neighbours.{is_place}
 use Rattle.terrain.specs.Ways.{place_toward}
 use Rattle.terrain.specs.declared.place.Place.{Place}
@@ -17,6 +17,7 @@ use Rattle.terrain.proofs.Listed.{is_place_from, place_is}
 use Rattle.flow.specs.Streams.{AreStreams, AreEnds, next_node, node_after, end_of}
 use Rattle.flow.specs.TileFlow.{Flow, stays, exit_in, IsTileExits, IsExitOf, IsExitCell}
 use Rattle.flow.specs.Whole.{is_outlet_code}
+use Rattle.flow.specs.TileLinks.{without_counts}
 use Rattle.tiles.specs.RimNumbers.{stride, side_number, rim_number_count, rim_number, rim_place}
 use Rattle.flow.specs.RimGraph.{code_in, AreFlowsOf, exit_by, side_cell, next_in, target_in, target_by, targets_by, next_exit_in, next_exit_by, number_or, rim_link, rim_links_by, rim_outlet, rim_outlets_by, outlet_by, AreOutlets}
 use Rattle.flow.proofs.Ranges.{every_in_range}
@@ -32,15 +33,16 @@ pub outlet_from_code : (o : Option ℕ) → is_outlet_code o ≡ true → o ≡ 
 outlet_from_code None h = cc
 outlet_from_code (Some n) h = ap Some (eqb-true _ _ h)
 
--- What `read` finds in `flow`, the flow of p's tile, it finds in that tile's entry of `flows`.
-pub read_of_tile : {X : Type 0} (read : Flow → Option X) (t : Cutting) (flows : List Flow)
-    (p : Place) (tile : ℕ) (flow : Flow) (x : Option X) →
-    length flows ≡ tile_count t →
-    tile ≡ tile_of_place t p → tile < tile_count t → flow ≡ get_or flows tile flow → x ≡ read flow →
+-- What `read` finds in the exits of p's tile, it finds in that tile's entry of `flows`.
+pub read_of_tile : {X : Type 0} (read : Flow → Option X) →
+    ((f : Flow) → read (without_counts f) ≡ read f) → (t : Cutting) (flows : List Flow)
+    (p : Place) (tile : ℕ) (exits : Flow) (x : Option X) → tile ≡ tile_of_place t p →
+    (f : Flow) × (slice_get flows tile ≡ Some f) × (without_counts exits ≡ without_counts f) →
+    x ≡ read exits →
     x ≡ option_and_then read (slice_get flows (tile_of_place t p))
-read_of_tile read t flows p tile flow x count at below is value =
-    value ∙ ap (option_and_then read) (sym (slice_get_read flows (length flows) tile flow refl
-    (omega (arith, below, count)) is) ∙ ap (slice_get flows) at)
+read_of_tile read same t flows p tile exits x at of value =
+    value ∙ sym (same exits) ∙ ap read of.2 ∙ same of.0
+    ∙ ap (option_and_then read) (sym of.1 ∙ ap (slice_get flows) at)
 
 -- On the rim, a place that is no outlet has the outlet listed for its rim number, if any.
 pub outlet_listed : (t : Cutting) (flows : List Flow) (listed : List (Option Place)) (p : Place) →

@@ -1,15 +1,15 @@
 -- As nodes send totals downstream, each node's total stays its weight and what its donors, the other
 -- nodes linked to it, have sent. Its entry in `waits` counts the donors that have not sent, and
 -- becomes `sent_entry` when the node itself sends. If no entry is 0, all are `sent_entry`.
-use Rattle.std.proofs.Common.{◌≡◌, ◌≢◌, ℕ, ◌+◌, ◌<◌, Bool, true, false, not, ◌&&◌, cond, eqb, inl, inr, List, length, get_or, set, sym, ap, refl, ◌∙◌, arith, ◌^◌, ◌≤◌, ◌-◌}
-use Rattle.std.proofs.lemmas.Bool.{cases_eq, cases_Bool, eq-eqb, ne_eqb, cond-true, cond-false, and_left, and_right, and_parts, not-true, not_from_true, not_from_false, true_from_ne_false, false≢true, false_from_ne_true}
+use Rattle.std.proofs.Common.{◌≡◌, ◌≢◌, ℕ, ◌+◌, ◌<◌, Bool, true, false, not, ◌&&◌, cond, eqb, ◌⊎◌, inl, inr, List, length, get_or, set, sym, ap, subst, refl, ◌∙◌, arith, ◌^◌, ◌≤◌, ◌-◌}
+use Rattle.std.proofs.lemmas.Bool.{cases_eq, cases_Bool, eq-eqb, eqb-true, ne_eqb, cond-true, cond-false, and_left, and_right, and_parts, not-true, not_from_true, not_from_false, true_from_ne_false, false≢true, false_from_ne_true}
 use Rattle.std.proofs.lemmas.List.{get_or-set_same, get_or-set_other}
 use Rattle.std.proofs.Math.ListN.{length-set}
 use Rattle.tile_jobs.specs.Sums.{sum_below}
 use Rattle.flow.specs.Streams.{next_node, leads_to, AreStreams, AreSums, total}
-use Rattle.flow.specs.Sending.{donor, sent_entry, has_sent, waiting, sent_on, IsSending, AreDonorCounts}
+use Rattle.flow.specs.Sending.{donor, sent_entry, has_sent, waiting, sent_on, IsSending, AreDonorCounts, IsMarked, noted, AreMarks, AreUnmarked}
 use Rattle.flow.proofs.Totals.{leads_from, each_downstream, totals_le, totals_are, total_is, leads_self, leads_end}
-use Rattle.tile_jobs.proofs.Sums.{bit_le, sum_below-none, sum_below-few, sum_below-same, sum_below-le, sum_below-except, some_term, term-le-sum_below}
+use Rattle.tile_jobs.proofs.Sums.{bit_le, cond_same, sum_below-none, sum_below-few, sum_below-same, sum_below-le, sum_below-except, some_term, term-le-sum_below}
 
 pub and_on : (a b : Bool) → b ≡ true → (a && b) ≡ a
 and_on true b t = t
@@ -112,6 +112,42 @@ unsent_one waits i = cond {A = ℕ} (has_sent waits i) 0 1
 abbrev pub unsent : List ℕ → ℕ → ℕ
 unsent waits n = sum_below (unsent_one waits) n
 
+-- If all nodes with a weight are marked, sending may begin.
+pub marks_begin : (links weights waits : List ℕ) → AreStreams links → length links ≤ 2 ^ 30 →
+    length weights ≡ length links →
+    ((i : ℕ) → i < length links → total links weights i < 2 ^ 32) → (node : ℕ) → AreMarks links waits node 0 →
+    ((i : ℕ) → i < length links → get_or weights i 0 ≢ 0 → IsMarked waits i) →
+    IsSending links weights waits weights
+marks_begin links weights waits streams few size fits node m marked = record {
+  streams = streams;
+  few = few;
+  fits = fits;
+  waits_size = m.size;
+  totals_size = size;
+  counts = λ i h f.
+      omega (arith, m.each i h, cond-false {A = ℕ} _ 0 (get_or waits i 0) f, cond_same (eqb node i));
+  sums = λ i h. omega (arith, sum_below-none (sent_on links waits weights i) (length links) (none i));
+  closed = λ i j h l on t. true_from_ne_false _ (λ f. omega (
+    arith,
+    m.each i h,
+    cond-true {A = ℕ} _ 0 (get_or waits i 0) t,
+    cond_same (eqb node i),
+    term-le-sum_below (waiting links waits i) (length links) j l,
+    waiting-open links waits i j f,
+    cond-true {A = ℕ} _ 1 0 on,
+  ));
+}
+  where
+    none : (i j : ℕ) → j < length links → sent_on links waits weights i j ≡ 0
+    none i j l = elim (cases_Bool (has_sent waits j)) [
+      | inr f ↦ sent_on-open links waits weights i j f
+      | inl t ↦ elim (cases_eq (get_or weights j 0) 0) [
+        | inl e ↦ sent_on-all links waits weights i j t ∙ ap (λ n. cond {A = ℕ} (leads_to links j i) n 0) e
+            ∙ cond_same (leads_to links j i)
+        | inr ne ↦ absurd (marked j l ne (eqb-true _ _ t))
+      ]
+    ]
+
 pub donors_begin : (links weights waits : List ℕ) → AreStreams links → length links ≤ 2 ^ 30 →
     length weights ≡ length links →
     ((i : ℕ) → i < length links → total links weights i < 2 ^ 32) → AreDonorCounts links waits →
@@ -124,21 +160,156 @@ donors_begin links weights waits streams few size fits d =
       d.each i h,
       sum_below-few (donor links i) (length links) (λ j l. bit_le (leads_to links j i)),
     )) in
-    record {
-      streams = streams;
-      few = few;
-      fits = fits;
-      waits_size = d.size;
-      totals_size = size;
-      counts = λ i h f. d.each i h ∙ sum_below-same (donor links i) (waiting links waits i)
-          (length links) (λ j l. sym (waiting-open links waits i j (low j l)));
-      sums = λ i h. omega (
+    marks_begin links weights waits streams few size fits 0 (record {
+      size = d.size;
+      each = λ i h. omega (
         arith,
-        sum_below-none (sent_on links waits weights i) (length links)
-            (λ j l. sent_on-open links waits weights i j (low j l)),
+        d.each i h,
+        cond-false {A = ℕ} _ 0 (get_or waits i 0) (low i h),
+        cond_same (eqb 0 i),
+        sum_below-same (donor links i) (waiting links waits i) (length links)
+            (λ j l. sym (waiting-open links waits i j (low j l))),
       );
-      closed = λ i j h l on t. absurd (false≢true (sym (low i h) ∙ t));
-    }
+    }) (λ i h ne e. false≢true (sym (low i h) ∙ eq-eqb _ _ e))
+
+-- Marking the nodes of a path.
+module _ (links waits : List ℕ) (few : length links ≤ 2 ^ 30) (node donors : ℕ)
+    (m : AreMarks links waits node donors) (inside : node < length links) where
+  donors_few : noted waits node + donors ≤ length links
+  donors_few = omega (
+    arith,
+    m.each node inside,
+    cond-true {A = ℕ} _ donors 0 (eq-eqb node node refl),
+    sum_below-few (waiting links waits node) (length links) (λ j l.
+        bit_le (leads_to links j node && not (has_sent waits j))),
+  )
+
+  pub entry_new : get_or waits node 0 ≡ sent_entry → donors ≡ noted waits node + donors
+  entry_new new = omega (arith, cond-true {A = ℕ} _ 0 (get_or waits node 0) (eq-eqb _ _ new))
+
+  pub entry_added : IsMarked waits node → get_or waits node 0 + donors ≡ noted waits node + donors
+  entry_added was = omega (arith, cond-false {A = ℕ} _ 0 (get_or waits node 0) (ne_eqb _ _ was))
+
+  pub entry_fits : IsMarked waits node → get_or waits node 0 + donors < 2 ^ 32
+  entry_fits was = omega (arith, entry_added was, donors_few, few)
+
+  -- The entry of `node` becomes one that counts all its donors.
+  module _ (entry : ℕ) (counts : entry ≡ noted waits node + donors) where
+    open_now : has_sent (set waits node entry) node ≡ false
+    open_now = open_from_count _ node (omega (
+      arith,
+      get_or-set_same waits node entry 0 (omega (arith, m.size, inside)),
+      counts,
+      donors_few,
+      few,
+    ))
+
+    same_mark : (j : ℕ) → j ≢ node → has_sent (set waits node entry) j ≡ has_sent waits j
+    same_mark j ne = ap (λ n. eqb n sent_entry) (get_or-set_other waits node j entry 0 ne)
+
+    set_marked : IsMarked (set waits node entry) node
+    set_marked e = false≢true (sym open_now ∙ eq-eqb _ _ e)
+
+    pub set_kept : (i : ℕ) → IsMarked waits i → IsMarked (set waits node entry) i
+    set_kept i was = elim (cases_eq i node) [
+      | inl e ↦ (λ z. set_marked (sym (ap (λ n. get_or (set waits node entry) n 0) e) ∙ z))
+      | inr ne ↦ (λ z. was (sym (get_or-set_other waits node i entry 0 ne) ∙ z))
+    ]
+
+    pub set_from : (from : ℕ) → (node ≡ from) ⊎ IsMarked waits from → IsMarked (set waits node entry) from
+    set_from from (inl e) = subst (λ (n : ℕ). IsMarked (set waits node entry) n) e set_marked
+    set_from from (inr was) = set_kept from was
+
+    noted_all : (i : ℕ) → i < length links →
+        noted (set waits node entry) i ≡ sum_below (waiting links waits i) (length links)
+    noted_all i h = elim (cases_eq i node) [
+      | inl e ↦ omega (
+        arith,
+        ap (noted (set waits node entry)) e,
+        cond-false {A = ℕ} _ 0 (get_or (set waits node entry) node 0) open_now,
+        get_or-set_same waits node entry 0 (omega (arith, m.size, inside)),
+        counts,
+        m.each node inside,
+        cond-true {A = ℕ} _ donors 0 (eq-eqb node node refl),
+        ap (λ n. sum_below (waiting links waits n) (length links)) e,
+      )
+      | inr ne ↦ omega (
+        arith,
+        ap (λ b. cond {A = ℕ} b 0 (get_or (set waits node entry) i 0)) (same_mark i ne),
+        ap (λ n. cond {A = ℕ} (has_sent waits i) 0 n) (get_or-set_other waits node i entry 0 ne),
+        m.each i h,
+        cond-false {A = ℕ} _ donors 0 (ne_eqb node i (λ e. ne (sym e))),
+      )
+    ]
+
+    -- A node that was marked keeps its mark.
+    pub mark_added : IsMarked waits node → AreMarks links (set waits node entry) 0 0
+    mark_added was =
+        let same : (j : ℕ) → has_sent (set waits node entry) j ≡ has_sent waits j =
+        λ j. elim (cases_eq j node) [
+          | inl e ↦ ap (has_sent (set waits node entry)) e ∙ open_now
+              ∙ sym (ap (has_sent waits) e ∙ ne_eqb _ _ was)
+          | inr ne ↦ same_mark j ne
+        ] in
+        record {
+          size = length-set waits node entry ∙ m.size;
+          each = λ i h. omega (
+            arith,
+            noted_all i h,
+            cond_same (eqb 0 i),
+            sum_below-same (waiting links (set waits node entry) i) (waiting links waits i) (length links)
+                (λ j l. ap (λ b. cond {A = ℕ} (leads_to links j i && not b) 1 0) (same j)),
+          );
+        }
+
+    module _ (new : get_or waits node 0 ≡ sent_entry) where
+      marked_sum : (i : ℕ) → i < length links → noted (set waits node entry) i + donor links i node
+          ≡ sum_below (waiting links (set waits node entry) i) (length links)
+      marked_sum i h = omega (
+        arith,
+        noted_all i h,
+        sum_below-except (waiting links (set waits node entry) i) (waiting links waits i) (length links) node inside
+            (λ j l ne. ap (λ b. cond {A = ℕ} (leads_to links j i && not b) 1 0) (same_mark j ne)),
+        waiting-sent links waits i node (eq-eqb _ _ new),
+        waiting-open links (set waits node entry) i node open_now,
+      )
+
+      pub mark_on : (next : ℕ) → next ≡ get_or links node 0 → next ≢ node →
+          AreMarks links (set waits node entry) next 1
+      mark_on next is ne = record {
+        size = length-set waits node entry ∙ m.size;
+        each = λ i h. omega
+            (arith, marked_sum i h, ap (λ b. cond {A = ℕ} b 1 0) (leads_test links node next i is ne));
+      }
+
+      pub mark_end : get_or links node 0 ≡ node → AreMarks links (set waits node entry) 0 0
+      mark_end end = record {
+        size = length-set waits node entry ∙ m.size;
+        each = λ i h. omega (
+          arith,
+          marked_sum i h,
+          cond-false {A = ℕ} _ 1 0 (leads_end links node i end),
+          cond_same (eqb 0 i),
+        );
+      }
+
+pub marks_none : (links waits : List ℕ) → AreUnmarked (length links) waits → AreMarks links waits 0 0
+marks_none links waits none = record {
+  size = none.size;
+  each = λ i h. omega (
+    arith,
+    cond-true {A = ℕ} _ 0 (get_or waits i 0) (eq-eqb _ _ (none.each i h)),
+    cond_same (eqb 0 i),
+    sum_below-none (waiting links waits i) (length links)
+        (λ j l. waiting-sent links waits i j (eq-eqb _ _ (none.each j l))),
+  );
+}
+
+pub marks_of : (links waits : List ℕ) (from node : ℕ) → AreMarks links waits from 0 → AreMarks links waits node 0
+marks_of links waits from node m = record {
+  size = m.size;
+  each = λ i h. omega (arith, m.each i h, cond_same (eqb from i), cond_same (eqb node i));
+}
 
 -- One node sends its total.
 

@@ -1,9 +1,9 @@
 -- If a node has a property whenever its donors, the other nodes linked to it, have the property,
 -- then every node has it. This bounds a node's total: its weight plus all weights upstream.
-use Rattle.std.proofs.Common.{◌≡◌, ◌≢◌, ℕ, zero, suc, ◌+◌, ◌<◌, ◌≤◌, true, false, not, eqb, cond, inl, inr, List, length, get_or, sym, ap, subst, refl, ◌∙◌, arith}
+use Rattle.std.proofs.Common.{◌≡◌, ◌≢◌, ℕ, zero, suc, ◌+◌, ◌<◌, ◌≤◌, Bool, true, false, not, eqb, cond, inl, inr, List, length, get_or, sym, ap, subst, refl, ◌∙◌, arith}
 use Rattle.std.proofs.lemmas.Bool.{cases_eq, cases_Bool, cond-true, cond-false, and_from, and_parts, and_right, eq-eqb, ne_eqb, eqb-true, not-true, not_from_true, not_from_false, false_from_ne_true, false≢true}
 use Rattle.flow.specs.Streams.{AreStreams, total_within, total, next_node, node_after, leads_to, upstream_sum}
-use Rattle.tile_jobs.proofs.Sums.{sum_below-le}
+use Rattle.tile_jobs.proofs.Sums.{sum_below-le, sum_below-same, sum_below-add}
 use Rattle.flow.proofs.Ending.{IsStop, early_end}
 
 pub leads_parts : (links : List ℕ) (j i : ℕ) → leads_to links j i ≡ true → (next_node links j ≡ i)
@@ -115,3 +115,27 @@ total_is links weights f streams are i h = omega (
       omega (arith, (totals_are links weights streams).each j l)) (λ j l.
       omega (arith, are.each j l)) i h,
 )
+
+cond_add : (b : Bool) (m n : ℕ) → cond {A = ℕ} b (m + n) 0 ≡ cond {A = ℕ} b m 0 + cond {A = ℕ} b n 0
+cond_add true m n = refl
+cond_add false m n = refl
+
+-- Totals are linear: those of two weights at each node add up.
+pub totals_add : (links v w both : List ℕ) → AreStreams links →
+    ((i : ℕ) → i < length links → get_or both i 0 ≡ get_or v i 0 + get_or w i 0) →
+    (i : ℕ) → i < length links → total links both i ≡ total links v i + total links w i
+totals_add links v w both streams sum =
+    total_is links both (λ i. total links v i + total links w i) streams (record {
+      each = λ i h. omega (
+        arith,
+        sum i h,
+        (totals_are links v streams).each i h,
+        (totals_are links w streams).each i h,
+        sum_below-same (λ j. cond {A = ℕ} (leads_to links j i) (total links v j + total links w j) 0)
+            (λ j. cond {A = ℕ} (leads_to links j i) (total links v j) 0
+            + cond {A = ℕ} (leads_to links j i) (total links w j) 0) (length links)
+            (λ j l. cond_add (leads_to links j i) (total links v j) (total links w j)),
+        sum_below-add (λ j. cond {A = ℕ} (leads_to links j i) (total links v j) 0)
+            (λ j. cond {A = ℕ} (leads_to links j i) (total links w j) 0) (length links),
+      );
+    })

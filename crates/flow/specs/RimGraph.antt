@@ -2,7 +2,7 @@
 -- the last to itself. Also the outlets of exits, found where paths along these links end. A rim
 -- number is a rim cell's number among the rim cells of all tiles.
 -- Public.
-use Rattle.std.specs.Prelude.{◌≡◌, ℕ, Bool, true, ◌/◌, ◌%◌, ◌&&◌, ◌==◌, if◌then◌else◌, List, map, Option, None, Some, slice_get, slice_index, slice_index_or, unwrap_or, option_and_then}
+use Rattle.std.specs.Prelude.{◌≡◌, ℕ, ◌/◌, ◌%◌, ◌&&◌, ◌==◌, if◌then◌else◌, List, map, Option, None, Some, slice_get, slice_index, slice_index_or, unwrap_or, option_and_then}
 use Rattle.std.specs.List.{range_with_len}
 use Rattle.terrain.specs.Ways.{place_toward}
 use Rattle.terrain.specs.declared.place.Place.{Place}
@@ -11,14 +11,9 @@ use Rattle.tiles.specs.Cutting.{Cutting, IsCutting, IsWithin, bounds_of, tile_of
 use Rattle.drainage.specs.Following.{Directed, last_of}
 use Rattle.drainage.specs.Drained.{AllFlowEnds}
 use Rattle.terrain.specs.Neighbours.{is_place}
-use Rattle.flow.specs.TileFlow.{Flow, exit_in, IsTileExits, IsTileCounts, AreTileExits, IsExitCell}
+use Rattle.flow.specs.TileFlow.{Flow, exit_in, AreTileExits, IsExitCell}
 use Rattle.flow.specs.Whole.{is_outlet_code}
 use Rattle.tiles.specs.RimNumbers.{stride, side_number, side_place, rim_number_count, rim_number, rim_place}
-
--- The flow has the exits of a tile, and its counts if `counted`.
-abbrev pub IsFlowOfTile : Directed → Cutting → Bool → ℕ → Flow → Type 0
-IsFlowOfTile d t counted tile f = IsTileExits d t tile f × (counted ≡ true →
-    IsTileCounts d t tile f)
 
 -- One flow for each tile, with the tile's exits, in a map of directions whose flow paths all end.
 pub record AreFlowsOf (d : Directed) (t : Cutting) (flows : List Flow) : Type 0 where

@@ -1,7 +1,7 @@
 -- Totals sent along links: a node sends its total, its weight and what it got, once all its donors,
 -- the other nodes linked to it, have sent theirs.
 -- Private.
-use Rattle.std.specs.Prelude.{◌≡◌, ℕ, ◌+◌, ◌^◌, ◌<◌, ◌≤◌, Bool, true, false, not, ◌&&◌, ◌==◌, if◌then◌else◌, List, length, slice_index}
+use Rattle.std.specs.Prelude.{◌≡◌, ◌≢◌, ℕ, ◌+◌, ◌^◌, ◌<◌, ◌≤◌, Bool, true, false, not, ◌&&◌, ◌==◌, if◌then◌else◌, List, length, slice_index}
 use Rattle.tile_jobs.specs.Sums.{sum_below}
 use Rattle.flow.specs.Streams.{AreStreams, leads_to, total}
 
@@ -40,6 +40,24 @@ pub record IsSending (links weights waits totals : List ℕ) : Type 0 where
       ≡ slice_index weights i + sum_below (sent_on links waits totals i) (length links)
   pub closed : (i j : ℕ) → i < length links → j < length links → leads_to links j i ≡ true →
       has_sent waits i ≡ true → has_sent waits j ≡ true
+
+abbrev pub IsMarked : List ℕ → ℕ → Type 0
+IsMarked waits i = slice_index waits i ≢ sent_entry
+
+-- How many marked donors a node's entry has counted.
+abbrev pub noted : List ℕ → ℕ → ℕ
+noted waits i = if has_sent waits i then 0 else slice_index waits i
+
+-- A marked node is one that has not sent. Entries count marked donors, except that `node` has
+-- `donors` more than its entry says. So no unmarked node but `node` has a marked donor.
+pub record AreMarks (links waits : List ℕ) (node donors : ℕ) : Type 0 where
+  pub size : length waits ≡ length links
+  pub each : (i : ℕ) → i < length links → noted waits i + (if node == i then donors else 0)
+      ≡ sum_below (waiting links waits i) (length links)
+
+pub record AreUnmarked (count : ℕ) (waits : List ℕ) : Type 0 where
+  pub size : length waits ≡ count
+  pub each : (i : ℕ) → i < count → slice_index waits i ≡ sent_entry
 
 -- A list of `count` zeros.
 pub record AreZeros (count : ℕ) (list : List ℕ) : Type 0 where

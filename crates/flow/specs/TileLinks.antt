@@ -1,6 +1,6 @@
 -- The directions of a tile as links between its cells, by their indexes in the tile's row order.
 -- Public.
-use Rattle.std.specs.Prelude.{◌≡◌, ℕ, ◌+◌, ◌-◌, ◌*◌, ◌/◌, ◌%◌, ◌^◌, ◌<◌, ◌≤◌, if◌then◌else◌, is_some, List, map, length, Option, None, Some, slice_index, slice_index_or, unwrap_or, option_and_then}
+use Rattle.std.specs.Prelude.{◌≡◌, ℕ, ◌+◌, ◌-◌, ◌*◌, ◌/◌, ◌%◌, ◌^◌, ◌<◌, ◌≤◌, if◌then◌else◌, is_some, List, [], map, length, Option, None, Some, slice_index, slice_index_or, unwrap_or, option_and_then}
 use Rattle.std.specs.List.{range_with_len}
 use Rattle.terrain.specs.Ways.{place_toward}
 use Rattle.tiles.specs.Cutting.{longest_axis, is_in_bounds, index_in, place_in}
@@ -73,11 +73,11 @@ abbrev pub where_data : {X : Type 0} → Option ℕ → X → Option X
 where_data None x = None
 where_data (Some code) x = Some x
 
--- Each data cell's total, less 1 for the cell itself.
-abbrev pub through_list : List (Option ℕ) → List ℕ → List (Option ℕ)
-through_list cells totals = map
-    (λ i. where_data (slice_index_or cells i None) (slice_index totals i - 1))
-    (range_with_len 0 (length totals))
+-- Each data cell's total, less 1 for the cell itself; `None` at NODATA.
+abbrev pub counts_by : List (Option ℕ) → (ℕ → ℕ) → List (Option ℕ)
+counts_by cells totals =
+    map (λ i. where_data (slice_index_or cells i None) (totals i - 1))
+    (range_with_len 0 (length cells))
 
 -- The index where each cell's path along links ends.
 abbrev pub ends_by : List ℕ → List ℕ
@@ -93,20 +93,28 @@ abbrev pub exits_by : Bounds → List (Option ℕ) → List ℕ → List (Option
 exits_by b cells ends = map (λ i. where_data (slice_index_or cells i None)
     (place_in b (slice_index ends i))) (range_with_len 0 (length cells))
 
--- The flow of a tile, by its codes, its cells' totals and the ends of paths along links.
-abbrev pub flow_by : Bounds → List (Option ℕ) → List ℕ → List ℕ → Flow
-flow_by b cells totals ends = record {
-  bounds = b;
-  codes = cells;
-  through = through_list cells totals;
-  exits = exits_by b cells ends;
+-- The flow of a tile without counts, by its codes and the ends of paths along links.
+abbrev pub flow_by : Bounds → List (Option ℕ) → List ℕ → Flow
+flow_by b cells ends =
+    record { bounds = b; codes = cells; through = []; exits = exits_by b cells ends }
+
+abbrev pub without_counts : Flow → Flow
+without_counts f = record { bounds = f.bounds; codes = f.codes; through = []; exits = f.exits }
+
+-- The flow with the counts that the cells' totals give.
+abbrev pub with_counts : Flow → List ℕ → Flow
+with_counts f totals = record {
+  bounds = f.bounds;
+  codes = f.codes;
+  through = counts_by f.codes (slice_index totals);
+  exits = f.exits;
 }
 
--- Lists of one lawful flow with these codes and totals. The links are those of the codes, and all
--- paths along them end. `rim_ends` has the ends of the rim cells' paths.
+-- Lists of one lawful flow with these codes. The links are those of the codes, and all paths along
+-- them end. `rim_ends` has the ends of the rim cells' paths.
 pub record AreFlowLists (b : Bounds) (cells : List (Option ℕ))
-    (links totals rim_ends : List ℕ) : Type 0 where
+    (links rim_ends : List ℕ) : Type 0 where
   pub linked : links ≡ links_by b cells
-  pub lawful : IsFlow (flow_by b cells totals (ends_by links))
+  pub lawful : IsFlow (flow_by b cells (ends_by links))
   pub streams : AreStreams links
   pub rim : rim_ends ≡ rim_ends_by b links

@@ -4,21 +4,22 @@
 //! each cell inside the tile. `inflows` sums what enters each rim cell from other tiles. A second
 //! job for each tile finds accumulations.
 ghost use Rattle.std.proofs.Props.{props};
-ghost use Rattle.std.specs.Prelude.{◌≡◌, ◌^◌, ◌<◌, length, IfOk};
+ghost use Rattle.std.specs.Prelude.{◌≡◌, ◌+◌, ◌^◌, ◌<◌, ℕ, length, slice_index, IfOk};
 ghost use Rattle.tiles.specs.Cutting.{Cuts, IsInBounds, bounds_of, cell_count, tile_count};
 ghost use Rattle.tile_jobs.specs.Fault.{RefusesWorkers};
 ghost use Rattle.drainage.specs.Drained.{directed_of};
 ghost use Rattle.flow.specs.Counts.{AreAccumulations};
-ghost use Rattle.flow.specs.Counting.{IsCountable, AreCountable, AreRimWeights, AreCounts, counts_by};
+ghost use Rattle.flow.specs.Counting.{IsCountable, AreCountable, AreInflowWeights, AreCounts};
+ghost use Rattle.flow.specs.TileLinks.{counts_by, where_data};
+ghost use Rattle.terrain.specs.StoredCells.{uncounted};
 ghost use Rattle.flow.specs.Inflows.{listed_inflow};
 ghost use Rattle.terrain.specs.declared.place.Place.{Place as AtPlace};
 
-use crate::cells::tile_weights;
 use crate::flowing::flow_tiles;
 use crate::inflows::Inflows;
 use crate::rim_graph::RimGraph;
-use crate::streams::totals;
-use crate::tile::{TileFlow, count_where_data};
+use crate::streams::{totals_of_few, zeros};
+use crate::tile::TileFlow;
 use drainage::{Code, Directions};
 use std::alloc::{AllocError, Global};
 use std::sync::Wait;
@@ -90,7 +91,7 @@ pub fn accumulation<R: Threads + Wait + Sync, G: Gate + Sync>(
         workers,
         gate,
     };
-    let flows = flow_tiles(&runner, d.codes(), tiling, true)?;
+    let flows = flow_tiles(&runner, d.codes(), tiling)?;
     let rim_graph = RimGraph::of(alloc, tiling, &flows)?;
     let inflows = Inflows::of_flows(alloc, tiling, &flows, &rim_graph)?;
     drop(rim_graph);
@@ -101,7 +102,8 @@ pub fn accumulation<R: Threads + Wait + Sync, G: Gate + Sync>(
     })
 }
 
-/// Returns the accumulations of a tile's cells.
+/// Returns the accumulations of a tile's cells: what the first job counted, plus what the tile's
+/// inflows add along their paths.
 fn tile_counts(
     alloc: Global,
     inflows: &Inflows,
@@ -112,42 +114,64 @@ fn tile_counts(
     requires tile { tile < tile_count inflows.now.cutting }
     ensures { IfOk result (λ v. AreCounts inflows.now tile flow.now v.items) }
 {
-    let codes = flow.codes();
-    let weights = weights_with_inflows(alloc, inflows, tile, codes)?;
-    let totals = totals(alloc, flow.links(), weights)?;
-    counts(alloc, codes, &totals)
+    let exits = flow.exits();
+    let codes = exits.codes();
+    let weights = inflow_weights(alloc, inflows, tile, codes.len())?;
+    let added = totals_of_few(alloc, exits.links(), weights)?;
+    counts(alloc, codes, flow.totals(), &added)
 }
 
-/// Returns each cell's weight: its inflow, plus 1 for a data cell.
-fn weights_with_inflows(
+/// Returns the inflow of each cell of a tile.
+fn inflow_weights(
     alloc: Global,
     inflows: &Inflows,
     tile: u32,
-    cells: &[Option<Code>],
+    count: usize,
 ) -> Result<Vec<u32>, AllocError>
     requires tile { tile < tile_count inflows.now.cutting }
-    requires size { length cells.now ≡ cell_count inflows.now.cutting tile }
+    requires size { count ≡ cell_count inflows.now.cutting tile }
     requires fits { (p : AtPlace) → IsInBounds (bounds_of inflows.now.cutting tile) p →
         listed_inflow inflows.now p < 2 ^ 31 }
     ensures { IfOk result (λ v.
-        AreRimWeights inflows.now (bounds_of inflows.now.cutting tile) cells.now v.items) }
+        AreInflowWeights inflows.now (bounds_of inflows.now.cutting tile) v.items) }
 {
-    let mut weights = tile_weights(alloc, cells)?;
+    let mut weights = zeros(alloc, count)?;
     inflows.add_to(tile, &mut weights);
     Ok(weights)
 }
 
-/// Returns each data cell's total, less 1 for the cell itself.
+/// Returns each data cell's entry in `totals` plus that in `added`, less 1 for the cell itself.
 /// NODATA has no count.
 #[tactic(auto, using(crate::proofs::Ranges::mapped_next))]
-fn counts(alloc: Global, cells: &[Option<Code>], totals: &[u32]) -> Result<Vec<Count>, AllocError>
-    requires { length totals.now ≡ length cells.now }
-    ensures { IfOk result (λ v. v.items ≡ counts_by cells.now totals.now) }
+fn counts(
+    alloc: Global,
+    cells: &[Option<Code>],
+    totals: &[u32],
+    added: &[u32],
+) -> Result<Vec<Count>, AllocError>
+    requires totals { length totals.now ≡ length cells.now }
+    requires added { length added.now ≡ length cells.now }
+    requires fits { (i : ℕ) → i < length cells.now →
+        slice_index totals.now i + slice_index added.now i < 2 ^ 32 }
+    ensures { IfOk result (λ v. v.items ≡ counts_by cells.now
+        (λ i. slice_index totals.now i + slice_index added.now i)) }
 {
     let mut values = Vec::with_capacity(alloc, cells.len())?;
     for index in 0..cells.len() {
+        let total = totals[index] + added[index];
         // The total of NODATA is 0, hence `saturating_sub`.
-        values.push(count_where_data(cells[index], totals[index].saturating_sub(1)))?;
+        values.push(count_where_data(cells[index], total.saturating_sub(1)))?;
     }
     Ok(values)
+}
+
+/// Returns `number` as the count of a data cell, or the `Count` of NODATA.
+#[inline(always)]
+fn count_where_data(code: Option<Code>, number: u32) -> Count
+    ensures { number < uncounted → result ≡ where_data code number }
+{
+    match code {
+        Some(_) => Count::of(number),
+        None => Count::none(),
+    }
 }

@@ -13,6 +13,8 @@
 //! - `end_numbers`: the trait for numbers of cells where flow paths end
 //! - `flowing`: the flows of all tiles
 //! - `tile`: the flow of one tile
+//! - `tile_exits`: the exits of one tile, without counts
+//! - `exit_lists`: the trait for lists of all tiles' exits
 //! - `cells`: codes and weights of a tile
 //! - `tile_links`: links of a tile's cells, one byte each
 //! - `nodes`: the trait for links of nodes
@@ -33,6 +35,7 @@ mod cells;
 mod counting;
 mod end_numbers;
 mod ends;
+mod exit_lists;
 mod flowing;
 mod gauges;
 mod inflows;
@@ -46,6 +49,7 @@ mod rim;
 mod rim_graph;
 mod streams;
 mod tile;
+mod tile_exits;
 mod tile_links;
 
 pub use basin::basins;

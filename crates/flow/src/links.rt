@@ -68,9 +68,9 @@ impl<'a> RimLinks<'a> {
     {
         // The call brings the prover `IsCutting` of the tiling, which `cols` ensures.
         prove!(tiling.cols() > 0);
-        let rim_graph = RimGraph::of(alloc, tiling, flows)?;
+        let rim_graph = RimGraph::of(alloc, tiling, &flows)?;
         let inflows = Inflows::of_flows(alloc, tiling, flows, &rim_graph)?;
-        let outlets = Outlets::of_flows(alloc, tiling, flows, &rim_graph)?;
+        let outlets = Outlets::of_flows(alloc, tiling, &flows, &rim_graph)?;
         Ok(RimLinks {
             flows,
             inflows,
@@ -91,6 +91,6 @@ impl<'a> RimLinks<'a> {
         requires { IsWithin self.now.cutting exit }
         ensures { result ≡ outlet_in self.now exit }
     {
-        self.outlets.outlet(self.flows, exit)
+        self.outlets.outlet(&self.flows, exit)
     }
 }

@@ -14,10 +14,10 @@ ghost use Rattle.flow.specs.RimGraph.{listed_outlet};
 ghost use Rattle.flow.specs.Numbering.{AreReady, IsNumberedPlace, end_number, number_at, exit_number_by, exit_numbers_by, cell_number, cell_numbers_by};
 
 use crate::end_numbers::EndNumbering;
-use crate::flowing::flow_tiles;
+use crate::flowing::exit_tiles;
 use crate::outlets::Outlets;
 use crate::rim_graph::RimGraph;
-use crate::tile::TileFlow;
+use crate::tile_exits::TileExits;
 use drainage::Code;
 use std::alloc::{AllocError, Global};
 use std::sync::Wait;
@@ -32,7 +32,7 @@ use tiles::Tiling;
 #[derive(Drop)]
 struct Numbering<'a, N: EndNumbering> {
     tiling: &'a Tiling,
-    flows: Vec<TileFlow>,
+    flows: Vec<TileExits>,
     outlets: Outlets,
     numbers: N,
     ghost ready: { AreReady tiling.now flows.items outlets
@@ -67,7 +67,7 @@ impl<'a, N: EndNumbering> Numbering<'a, N> {
     fn exit_numbers(
         &self,
         alloc: Global,
-        flow: &TileFlow,
+        flow: &TileExits,
         ends: &[u32],
     ) -> Result<Vec<u32>, AllocError>
         requires ends { AreEnds (links_by flow.now.bounds flow.now.codes) ends.now }
@@ -86,7 +86,7 @@ impl<'a, N: EndNumbering> Numbering<'a, N> {
     }
 
     #[inline(always)]
-    fn exit_number(&self, flow: &TileFlow, ends: &[u32], index: usize) -> u32
+    fn exit_number(&self, flow: &TileExits, ends: &[u32], index: usize) -> u32
         requires ends { AreEnds (links_by flow.now.bounds flow.now.codes) ends.now }
         requires index { index < length flow.now.exits }
         requires exit { IfSome (slice_index_or flow.now.exits index None)
@@ -137,7 +137,7 @@ pub(crate) fn number_cells<R: Threads + Wait + Sync, G: Gate + Sync, N: EndNumbe
         IfOk result (λ v. IsMapOf d (end_number d (N.numbers numbers)) v.items) }
     ensures workers { RefusesWorkers runner.now.workers result }
 {
-    let flows = flow_tiles(runner, codes, tiling, false)?;
+    let flows = exit_tiles(runner, codes, tiling)?;
     let rim_graph = RimGraph::of(runner.alloc, tiling, &flows)?;
     let outlets = Outlets::of_flows(runner.alloc, tiling, &flows, &rim_graph)?;
     drop(rim_graph);
@@ -154,7 +154,7 @@ pub(crate) fn number_cells<R: Threads + Wait + Sync, G: Gate + Sync, N: EndNumbe
 #[tactic(auto, using(crate::proofs::Ranges::mapped_next))]
 fn cell_numbers(
     alloc: Global,
-    flow: &TileFlow,
+    flow: &TileExits,
     ends: &[u32],
     by_exit: &[u32],
 ) -> Result<Vec<Count>, AllocError>
@@ -171,7 +171,7 @@ fn cell_numbers(
 }
 
 #[inline(always)]
-fn cell_number(flow: &TileFlow, ends: &[u32], by_exit: &[u32], index: usize) -> Count
+fn cell_number(flow: &TileExits, ends: &[u32], by_exit: &[u32], index: usize) -> Count
     requires ends { AreEnds (links_by flow.now.bounds flow.now.codes) ends.now }
     requires size { length by_exit.now ≡ length flow.now.exits }
     requires index { index < length by_exit.now }

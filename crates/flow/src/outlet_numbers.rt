@@ -5,7 +5,7 @@ ghost use Rattle.std.specs.Prelude.{◌≡◌, ◌-◌, ◌*◌, ◌^◌, ◌<�
 ghost use Rattle.flow.specs.Whole.{is_outlet_code};
 
 use crate::end_numbers::EndNumbering;
-use crate::tile::is_outlet;
+use crate::tile_exits::is_outlet;
 use drainage::Code;
 use std::alloc::{AllocError, Global};
 use std::marker::Model;

@@ -12,8 +12,9 @@ ghost use Rattle.tiles.specs.RimNumbers.{rim_number_count, stride};
 ghost use Rattle.flow.specs.RimGraph.{code_in, AreFlowsOf, target_in, first_targets, targets_by, next_exit_by, rim_link, rim_links_by};
 
 use crate::cells::next_of;
+use crate::exit_lists::ExitList;
 use crate::rim::side_cell;
-use crate::tile::TileFlow;
+use crate::tile_exits::TileExits;
 use drainage::Code;
 use std::alloc::{AllocError, Global};
 use terrain::Place;
@@ -31,14 +32,14 @@ pub(crate) struct RimGraph {
 
 impl RimGraph {
     /// Finds the targets and links from the flows of all tiles, given in tile order.
-    pub(crate) fn of(
+    pub(crate) fn of<F: ExitList>(
         alloc: Global,
         tiling: &Tiling,
-        flows: &[TileFlow],
+        flows: &F,
     ) -> Result<RimGraph, AllocError>
-        requires { (d : Directed) × AreFlowsOf d tiling.now flows.now }
-        ensures targets { IfOk result (λ x. x.targets.items ≡ targets_by tiling.now flows.now) }
-        ensures links { IfOk result (λ x. x.links.items ≡ rim_links_by tiling.now flows.now) }
+        requires { (d : Directed) × AreFlowsOf d tiling.now (F.flows flows.now) }
+        ensures targets { IfOk result (λ x. x.targets.items ≡ targets_by tiling.now (F.flows flows.now)) }
+        ensures links { IfOk result (λ x. x.links.items ≡ rim_links_by tiling.now (F.flows flows.now)) }
     {
         let targets = rim_targets(alloc, tiling, flows)?;
         let links = rim_links(alloc, tiling, flows, &targets)?;
@@ -47,28 +48,28 @@ impl RimGraph {
 }
 
 #[inline(always)]
-pub(crate) fn code_of(tiling: &Tiling, flows: &[TileFlow], place: Place) -> Option<Code>
-    requires count { length flows.now ≡ tile_count tiling.now }
+pub(crate) fn code_of<F: ExitList>(tiling: &Tiling, flows: &F, place: Place) -> Option<Code>
+    requires count { length (F.flows flows.now) ≡ tile_count tiling.now }
     requires within { IsWithin tiling.now place }
-    ensures value { result ≡ code_in tiling.now flows.now place }
+    ensures value { result ≡ code_in tiling.now (F.flows flows.now) place }
     ensures lawful { IsCutting tiling.now }
 {
-    flows[tiling.tile_of(place) as usize].code(place)
+    flows.of_tile(tiling.tile_of(place)).code(place)
 }
 
 #[inline(always)]
-fn next_exit(tiling: &Tiling, flows: &[TileFlow], entry: Place) -> Option<Place>
-    requires count { length flows.now ≡ tile_count tiling.now }
+fn next_exit<F: ExitList>(tiling: &Tiling, flows: &F, entry: Place) -> Option<Place>
+    requires count { length (F.flows flows.now) ≡ tile_count tiling.now }
     requires within { IsWithin tiling.now entry }
-    ensures { result ≡ next_exit_by tiling.now flows.now entry }
+    ensures { result ≡ next_exit_by tiling.now (F.flows flows.now) entry }
 {
-    flows[tiling.tile_of(entry) as usize].next_exit(entry)
+    flows.of_tile(tiling.tile_of(entry)).next_exit(entry)
 }
 
 /// Returns the place in another tile that the cell with side number `side` flows into.
 /// `None` if there is no such place.
 #[inline(always)]
-fn target_of(largest: Bounds, flow: &TileFlow, side: u32) -> Option<Place>
+fn target_of(largest: Bounds, flow: &TileExits, side: u32) -> Option<Place>
     requires largest { IsWithinLimits largest }
     requires some_row { 1 ≤ flow.now.bounds.rows }
     requires side { side < stride largest }
@@ -86,22 +87,22 @@ fn target_of(largest: Bounds, flow: &TileFlow, side: u32) -> Option<Place>
 
 /// Appends the target of each side number of a tile, `None` if it has no target.
 /// The target is the place in another tile that the cell with the number flows into.
-fn push_targets(
+fn push_targets<F: ExitList>(
     targets: &mut Vec<Option<Place>>,
     tiling: &Tiling,
-    flows: &[TileFlow],
+    flows: &F,
     tile: u32,
 ) -> Result<(), AllocError>
-    requires flows { (d : Directed) × AreFlowsOf d tiling.now flows.now }
+    requires flows { (d : Directed) × AreFlowsOf d tiling.now (F.flows flows.now) }
     requires tile { tile < tile_count tiling.now }
     requires targets { targets.old.items
-        ≡ first_targets tiling.now flows.now (tile * stride (bounds_of tiling.now 0)) }
+        ≡ first_targets tiling.now (F.flows flows.now) (tile * stride (bounds_of tiling.now 0)) }
     ensures { OnOk result
         (targets.new.items
-        ≡ first_targets tiling.now flows.now ((tile + 1) * stride (bounds_of tiling.now 0))) }
+        ≡ first_targets tiling.now (F.flows flows.now) ((tile + 1) * stride (bounds_of tiling.now 0))) }
 {
     let largest = tiling.bounds(0);
-    let flow = &flows[tile as usize];
+    let flow = flows.of_tile(tile);
     for side in 0..largest.side_count() {
         targets.push(target_of(largest, flow, side))?;
     }
@@ -109,13 +110,13 @@ fn push_targets(
 }
 
 /// Returns the place in another tile that each rim cell flows into, if any.
-fn rim_targets(
+fn rim_targets<F: ExitList>(
     alloc: Global,
     tiling: &Tiling,
-    flows: &[TileFlow],
+    flows: &F,
 ) -> Result<Vec<Option<Place>>, AllocError>
-    requires { (d : Directed) × AreFlowsOf d tiling.now flows.now }
-    ensures { IfOk result (λ v. v.items ≡ targets_by tiling.now flows.now) }
+    requires { (d : Directed) × AreFlowsOf d tiling.now (F.flows flows.now) }
+    ensures { IfOk result (λ v. v.items ≡ targets_by tiling.now (F.flows flows.now)) }
 {
     let mut targets = Vec::with_capacity(alloc, tiling.rim_number_count() as usize)?;
     for tile in 0..tiling.tiles() {
@@ -126,11 +127,11 @@ fn rim_targets(
 
 /// Returns the rim number of the next exit into another tile after the exit `number`.
 /// If there is none, or `number` is no exit into another tile, returns `number`.
-fn link_of(tiling: &Tiling, flows: &[TileFlow], targets: &[Option<Place>], number: u32) -> u32
-    requires flows { (d : Directed) × AreFlowsOf d tiling.now flows.now }
-    requires targets { targets.now ≡ targets_by tiling.now flows.now }
+fn link_of<F: ExitList>(tiling: &Tiling, flows: &F, targets: &[Option<Place>], number: u32) -> u32
+    requires flows { (d : Directed) × AreFlowsOf d tiling.now (F.flows flows.now) }
+    requires targets { targets.now ≡ targets_by tiling.now (F.flows flows.now) }
     requires number { number < rim_number_count tiling.now }
-    ensures { result ≡ rim_link tiling.now flows.now number }
+    ensures { result ≡ rim_link tiling.now (F.flows flows.now) number }
 {
     let Some(entry) = targets[number as usize] else {
         return number;
@@ -142,15 +143,15 @@ fn link_of(tiling: &Tiling, flows: &[TileFlow], targets: &[Option<Place>], numbe
 }
 
 #[tactic(auto, using(crate::proofs::Ranges::mapped_next))]
-fn rim_links(
+fn rim_links<F: ExitList>(
     alloc: Global,
     tiling: &Tiling,
-    flows: &[TileFlow],
+    flows: &F,
     targets: &[Option<Place>],
 ) -> Result<Vec<u32>, AllocError>
-    requires flows { (d : Directed) × AreFlowsOf d tiling.now flows.now }
-    requires targets { targets.now ≡ targets_by tiling.now flows.now }
-    ensures { IfOk result (λ v. v.items ≡ rim_links_by tiling.now flows.now) }
+    requires flows { (d : Directed) × AreFlowsOf d tiling.now (F.flows flows.now) }
+    requires targets { targets.now ≡ targets_by tiling.now (F.flows flows.now) }
+    ensures { IfOk result (λ v. v.items ≡ rim_links_by tiling.now (F.flows flows.now)) }
 {
     let count = tiling.rim_number_count();
     let mut links = Vec::with_capacity(alloc, count as usize)?;

@@ -1,10 +1,10 @@
 //! Sums for each node its weight and those of all nodes upstream of it along links.
 //!
-//! A node's donors are the other nodes linked to it. The loop of `send_from` has a label, by which
-//! proofs name it.
+//! A node's donors are the other nodes linked to it. Labels of loops are for proofs, which name
+//! loops by them.
 ghost use Rattle.std.specs.Prelude.{◌≡◌, ◌≢◌, ◌+◌, ◌^◌, ◌<◌, ◌≤◌, ℕ, List, length, slice_index, IfOk};
 ghost use Rattle.flow.specs.Streams.{AreStreams, AreSums, total};
-ghost use Rattle.flow.specs.Sending.{IsSending, AreDonorCounts, AreZeros};
+ghost use Rattle.flow.specs.Sending.{IsSending, AreDonorCounts, AreMarks, AreUnmarked, AreZeros, IsMarked};
 
 use crate::nodes::Links;
 use std::alloc::{AllocError, Global};
@@ -52,6 +52,78 @@ pub(crate) fn totals<L: Links>(
     count_donors(links, &mut waits);
     send_all(links, &mut waits, &mut totals);
     Ok(totals)
+}
+
+/// Returns, for each node, the sum of its weight and those of all nodes upstream of it.
+/// Follows paths of nodes whose weight is not 0 alone: fast where few nodes are on them.
+pub(crate) fn totals_of_few<L: Links>(
+    alloc: Global,
+    links: &L,
+    weights: Vec<u32>,
+) -> Result<Vec<u32>, AllocError>
+    requires streams { AreStreams (L.list links.now) }
+    requires few { length (L.list links.now) ≤ 2 ^ 30 }
+    requires same { length weights.items ≡ length (L.list links.now) }
+    requires fits { (i : ℕ) → i < length (L.list links.now) →
+        total (L.list links.now) weights.items i < 2 ^ 32 }
+    ensures { IfOk result (λ v. AreSums (L.list links.now) weights.items v.items) }
+{
+    let mut totals = weights;
+    let mut waits = unmarked(alloc, links.count())?;
+    mark_paths(links, &totals, &mut waits);
+    send_all(links, &mut waits, &mut totals);
+    Ok(totals)
+}
+
+/// Returns the entries of `len` nodes of which none is marked.
+fn unmarked(alloc: Global, len: usize) -> Result<Vec<u32>, AllocError>
+    ensures { IfOk result (λ v. AreUnmarked len v.items) }
+{
+    vec![in alloc; SENT; len]
+}
+
+/// Marks the nodes on the paths of nodes whose weight is not 0.
+/// A marked node's entry in `waits` counts its donors that are marked; others keep `SENT`.
+fn mark_paths<L: Links>(links: &L, weights: &[u32], waits: &mut [u32])
+    requires streams { AreStreams (L.list links.now) }
+    requires few { length (L.list links.now) ≤ 2 ^ 30 }
+    requires same { length weights.now ≡ length (L.list links.now) }
+    requires unmarked { AreUnmarked (length (L.list links.now)) waits.old }
+    ensures marks { AreMarks (L.list links.now) waits.new 0 0 }
+    ensures marked { (i : ℕ) → i < length (L.list links.now) → slice_index weights.now i ≢ 0 →
+        IsMarked waits.new i }
+{
+    for node in 0..links.count() {
+        mark_path(links, weights[node], waits, node);
+    }
+}
+
+/// Marks the nodes on the path of `from` before the first that is marked, if the weight is not 0.
+#[inline(always)]
+fn mark_path<L: Links>(links: &L, weight: u32, waits: &mut [u32], from: usize)
+    requires streams { AreStreams (L.list links.now) }
+    requires few { length (L.list links.now) ≤ 2 ^ 30 }
+    requires marks { AreMarks (L.list links.now) waits.old 0 0 }
+    requires inside { from < length (L.list links.now) }
+    ensures marks { AreMarks (L.list links.now) waits.new 0 0 }
+    ensures kept { (i : ℕ) → IsMarked waits.old i → IsMarked waits.new i }
+    ensures marked { weight ≢ 0 → IsMarked waits.new from }
+{
+    if weight == 0 {
+        return;
+    }
+    let mut node = from;
+    let mut donors = 0;
+    'path: while waits[node] == SENT {
+        waits[node] = donors;
+        let next = links.next(node);
+        if next == node {
+            return;
+        }
+        donors = 1;
+        node = next;
+    }
+    waits[node] += donors;
 }
 
 /// Sends each node's total downstream, after those of its donors.

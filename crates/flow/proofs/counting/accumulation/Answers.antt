@@ -1,4 +1,4 @@
-use Rattle.std.proofs.Common.{ℕ, Option, Vec, Global, refl}
+use Rattle.std.proofs.Common.{ℕ, Option, Vec, Global}
 use Rattle.std.proofs.lemmas.Result.{IfOk-weaker}
 use Rattle.tile_maps.specs.Maps.{IsMadeMap}
 use Rattle.tile_maps.proofs.Whole.{entry_of_map}
@@ -19,7 +19,7 @@ invariant_of-map_tiles g c = record {
       (grid_flow c.args.d.now c.args.tiling.now c.codes.result.now c.codes.ensures.draining
       c.requires c.codes.ensures.value)
       c.in_ok-flows.ensures.flows
-      (c.in_ok-flows.ensures.counts refl) c.deref-2.ensures.value c.in_ok-inflows.ensures.inflows);
+      c.in_ok-flows.ensures.counts c.deref.ensures.value c.in_ok-inflows.ensures.inflows);
 }
 
 pub returns-clause-values : goal.returns-clause-values
@@ -29,7 +29,7 @@ returns-clause-values g c =
     let counting = counting_of t codes _ _ _
     (grid_flow c.args.d.now t codes c.codes.ensures.draining c.requires c.codes.ensures.value)
     c.in_ok-flows.ensures.flows
-    (c.in_ok-flows.ensures.counts refl) c.deref-2.ensures.value c.in_ok-inflows.ensures.inflows in
+    c.in_ok-flows.ensures.counts c.deref.ensures.value c.in_ok-inflows.ensures.inflows in
     IfOk-weaker c.map_tiles.result (λ (v : Vec (Option ℕ) Global).
     IsMadeMap t (IsCountAt t c.in_ok-flows.flows.items c.in_ok-inflows.inflows) v.items)
     (λ (v : Vec (Option ℕ) Global). AreAccumulations (directed_of c.args.d.now) v.items)

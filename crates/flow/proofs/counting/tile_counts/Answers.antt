@@ -1,73 +1,104 @@
-use Rattle.std.proofs.Common.{◌≡◌, ℕ, List, length, Option, Vec, Global, subst, sym, ap, ◌∙◌, arith}
+use Rattle.std.proofs.Common.{◌≡◌, ℕ, ◌+◌, ◌<◌, List, length, get_or, Option, Vec, Global, subst, sym, ap, ◌∙◌, arith}
+use Rattle.std.specs.Prelude.{slice_index}
 use Rattle.std.proofs.lemmas.Result.{IfOk-weaker}
-use Rattle.tiles.specs.Cutting.{bounds_of}
 use Rattle.flow.specs.TileFlow.{Flow}
-use Rattle.flow.specs.Inflows.{Inflows}
 use Rattle.flow.specs.Streams.{AreStreams, AreSums, total}
-use Rattle.flow.specs.Counting.{AreRimWeights, AreCounts, counts_by}
+use Rattle.flow.specs.TileLinks.{counts_by, links_by}
+use Rattle.flow.specs.Counting.{AreCounts}
 use Rattle.flow.proofs.counting.tile_counts.Goals as goal
 
-pub weights_with_inflows-requires-clause-size : goal.weights_with_inflows-requires-clause-size
-weights_with_inflows-requires-clause-size c = ap length c.codes-codes.ensures
+pub inflow_weights-requires-clause-size : goal.inflow_weights-requires-clause-size
+inflow_weights-requires-clause-size c = ap length (c.codes-codes.ensures ∙ ap (λ (f : Flow). f.codes) c.exits-exits.ensures)
     ∙ c.requires.countable.size
 
-pub totals-requires-clause-streams : goal.totals-requires-clause-streams
-totals-requires-clause-streams c =
-    subst (λ (l : List ℕ). AreStreams l) (sym c.links.ensures) c.requires.countable.streams
+pub totals_of_few-requires-clause-streams : goal.totals_of_few-requires-clause-streams
+totals_of_few-requires-clause-streams c =
+    subst (λ (l : List ℕ). AreStreams l) (sym (c.links.ensures
+    ∙ ap (λ (f : Flow). links_by f.bounds f.codes) c.exits-exits.ensures)) c.requires.countable.streams
 
-pub totals-requires-clause-few : goal.totals-requires-clause-few
-totals-requires-clause-few c =
-    omega (arith, c.requires.countable.few, c.requires.countable.linked, ap length c.links.ensures)
-
-pub totals-requires-clause-same : goal.totals-requires-clause-same
-totals-requires-clause-same c =
-    omega (
-      arith,
-      c.in_ok-weights.ensures.size,
-      c.requires.countable.linked,
-      ap length c.links.ensures,
-      ap length c.codes-codes.ensures,
-    )
-
-weighed_by :
-    (inflows : Inflows) (tile : ℕ) (f : Flow) (codes : List (Option ℕ)) (weights : List ℕ) →
-    codes ≡ f.codes → AreRimWeights inflows (bounds_of inflows.cutting tile) codes weights →
-    AreRimWeights inflows (bounds_of inflows.cutting tile) f.codes weights
-weighed_by inflows tile f codes weights e w = subst (λ (l : List (Option ℕ)).
-    AreRimWeights inflows (bounds_of inflows.cutting tile) l weights) e w
-
-pub totals-requires-clause-fits : goal.totals-requires-clause-fits
-totals-requires-clause-fits c = λ i h. omega (
+pub totals_of_few-requires-clause-few : goal.totals_of_few-requires-clause-few
+totals_of_few-requires-clause-few c = omega (
   arith,
-  c.requires.countable.totals_fit c.in_ok-weights.weights.items
-      (weighed_by _ _ c.args.flow.now _ _ c.codes-codes.ensures c.in_ok-weights.ensures) i
-      (omega (arith, h, c.requires.countable.linked, ap length c.links.ensures)),
-  ap (λ (l : List ℕ). total l c.in_ok-weights.weights.items i) c.links.ensures,
+  c.requires.countable.few,
+  c.requires.countable.linked,
+  ap length (c.links.ensures ∙ ap (λ (f : Flow). links_by f.bounds f.codes) c.exits-exits.ensures),
 )
 
-pub counts-requires : goal.counts-requires
-counts-requires c =
+pub totals_of_few-requires-clause-same : goal.totals_of_few-requires-clause-same
+totals_of_few-requires-clause-same c = omega (
+  arith,
+  c.in_ok-weights.ensures.size,
+  c.requires.countable.size,
+  c.requires.countable.linked,
+  ap length (c.links.ensures ∙ ap (λ (f : Flow). links_by f.bounds f.codes) c.exits-exits.ensures),
+)
+
+pub totals_of_few-requires-clause-fits : goal.totals_of_few-requires-clause-fits
+totals_of_few-requires-clause-fits c = λ i h.
+    let linked = c.links.ensures ∙ ap (λ (f : Flow). links_by f.bounds f.codes) c.exits-exits.ensures in
     omega (
       arith,
-      c.in_ok-totals.ensures.size,
+      c.requires.countable.totals_fit c.in_ok-weights.weights.items c.in_ok-weights.ensures i
+          (omega (arith, h, c.requires.countable.linked, ap length linked)),
+      ap (λ (l : List ℕ). total l c.in_ok-weights.weights.items i) linked,
+    )
+
+pub counts-requires-clause-totals : goal.counts-requires-clause-totals
+counts-requires-clause-totals c = omega (
+  arith,
+  c.totals.ensures.size,
+  c.requires.countable.linked,
+  ap length (c.codes-codes.ensures ∙ ap (λ (f : Flow). f.codes) c.exits-exits.ensures),
+)
+
+added_by : (f : Flow) (links weights added : List ℕ) → links ≡ links_by f.bounds f.codes →
+    AreSums links weights added → AreSums (links_by f.bounds f.codes) weights added
+added_by f links weights added made summed = subst (λ (l : List ℕ). AreSums l weights added) made summed
+
+pub counts-requires-clause-added : goal.counts-requires-clause-added
+counts-requires-clause-added c =
+    let linked = c.links.ensures ∙ ap (λ (f : Flow). links_by f.bounds f.codes) c.exits-exits.ensures in
+    omega (
+      arith,
+      (added_by c.args.flow.now _ _ _ linked c.in_ok-added.ensures).size,
       c.requires.countable.linked,
-      ap length c.links.ensures,
       ap length c.deref.ensures.value,
-      ap length c.codes-codes.ensures,
+      ap length (c.codes-codes.ensures ∙ ap (λ (f : Flow). f.codes) c.exits-exits.ensures),
+    )
+
+pub counts-requires-clause-fits : goal.counts-requires-clause-fits
+counts-requires-clause-fits c = λ i h.
+    let linked = c.links.ensures ∙ ap (λ (f : Flow). links_by f.bounds f.codes) c.exits-exits.ensures in
+    let below : i < length c.args.flow.now.codes =
+    omega (arith, h, ap length (c.codes-codes.ensures ∙ ap (λ (f : Flow). f.codes) c.exits-exits.ensures)) in
+    let there : i < length (links_by c.args.flow.now.bounds c.args.flow.now.codes) =
+    omega (arith, below, c.requires.countable.linked) in
+    omega (
+      arith,
+      c.totals.ensures.each i there,
+      (added_by c.args.flow.now _ _ _ linked c.in_ok-added.ensures).each i there,
+      c.requires.countable.totals_fit c.in_ok-weights.weights.items c.in_ok-weights.ensures i below,
+      ap (λ (l : List ℕ). get_or l i 0) c.deref.ensures.value,
     )
 
 pub returns : goal.returns
 returns c =
+    let linked = c.links.ensures ∙ ap (λ (f : Flow). links_by f.bounds f.codes) c.exits-exits.ensures in
     IfOk-weaker c.counts.result
-    (λ (v : Vec (Option ℕ) Global). v.items ≡ counts_by c.codes-codes.result.now c.deref.result.now)
+    (λ (v : Vec (Option ℕ) Global). v.items ≡ counts_by c.codes-codes.result.now
+    (λ i. slice_index c.totals.result.now i + slice_index c.deref.result.now i))
     (λ (v : Vec (Option ℕ) Global).
     AreCounts c.args.inflows.now c.args.tile c.args.flow.now v.items)
     (λ v e. record {
       weights = c.in_ok-weights.weights.items;
-      totals = c.in_ok-totals.totals.items;
-      weighed = weighed_by _ _ c.args.flow.now _ _ c.codes-codes.ensures c.in_ok-weights.ensures;
-      summed = subst (λ (l : List ℕ). AreSums l c.in_ok-weights.weights.items c.in_ok-totals.totals.items)
-          c.links.ensures c.in_ok-totals.ensures;
-      made = e ∙ ap (λ (x : List (Option ℕ)). counts_by x c.deref.result.now) c.codes-codes.ensures
-          ∙ ap (counts_by c.args.flow.now.codes) c.deref.ensures.value;
+      totals = c.totals.result.now;
+      added = c.in_ok-added.added.items;
+      weighed = c.in_ok-weights.ensures;
+      counted = c.totals.ensures;
+      summed = added_by c.args.flow.now _ _ _ linked c.in_ok-added.ensures;
+      made = e ∙ ap (λ (x : List (Option ℕ)). counts_by x
+          (λ i. slice_index c.totals.result.now i + slice_index c.deref.result.now i))
+          (c.codes-codes.ensures ∙ ap (λ (f : Flow). f.codes) c.exits-exits.ensures)
+          ∙ ap (λ (l : List ℕ). counts_by c.args.flow.now.codes (λ i. slice_index c.totals.result.now i + slice_index l i))
+          c.deref.ensures.value;
     }) c.counts.ensures

@@ -1,6 +1,6 @@
-use Rattle.std.proofs.Common.{◌≡◌, List, true, refl}
-use Rattle.flow.specs.TileFlow.{Flow, AreTileCounts}
-use Rattle.flow.specs.RimGraph.{AreFlowsOf, IsFlowOfTile}
+use Rattle.std.proofs.Common.{refl}
+use Rattle.flow.specs.TileFlow.{IsTileFlow, AreTileCounts}
+use Rattle.flow.specs.RimGraph.{AreFlowsOf}
 use Rattle.flow.specs.Whole.{make_directed}
 use Rattle.flow.proofs.Together.{jobs_gave}
 use Rattle.flow.proofs.flowing.flow_tiles.Goals as goal
@@ -9,20 +9,16 @@ pub returns-clause-flows : goal.returns-clause-flows
 returns-clause-flows g c =
     let t = c.args.tiling.now in
     let d = make_directed t.cols t.rows c.args.codes.now in
-    jobs_gave (IsFlowOfTile d t c.args.counted) c.run.result _ _
-    (AreFlowsOf d t) c.tiles.ensures.value
+    jobs_gave (IsTileFlow d t) c.run.result _ _ (AreFlowsOf d t) c.tiles.ensures.value
     (λ outs count each. record {
       cutting = c.tiles.ensures.lawful;
       ends = c.requires.grid.ends;
-      of_tiles =
-          record { size = (refl, refl); count = count; each = λ k x there. (each k x there).0 };
+      of_tiles = record { size = (refl, refl); count = count; each = λ k x there. (each k x there).exits };
     }) c.run.ensures.len c.run.ensures.given
 
 pub returns-clause-counts : goal.returns-clause-counts
 returns-clause-counts g c =
     let t = c.args.tiling.now in
     let d = make_directed t.cols t.rows c.args.codes.now in
-    jobs_gave (IsFlowOfTile d t c.args.counted) c.run.result _ _ (λ (outs : List Flow).
-    c.args.counted ≡ true → AreTileCounts d t outs) c.tiles.ensures.value
-    (λ outs count each counted.
-    record { each = λ k x there. (each k x there).1 counted }) c.run.ensures.len c.run.ensures.given
+    jobs_gave (IsTileFlow d t) c.run.result _ _ (AreTileCounts d t) c.tiles.ensures.value
+    (λ outs count each. record { each = λ k x there. (each k x there).counts }) c.run.ensures.len c.run.ensures.given

@@ -1,4 +1,4 @@
-use Rattle.std.proofs.Common.{ℕ, Option, Vec, Global}
+use Rattle.std.proofs.Common.{ℕ, Option, Vec, Global, refl}
 use Rattle.std.proofs.lemmas.Result.{IfOk-weaker}
 use Rattle.tile_maps.specs.Maps.{IsMadeMap}
 use Rattle.tile_maps.proofs.Whole.{entry_of_map}
@@ -12,7 +12,7 @@ pub invariant_of-map_tiles : goal.invariant_of-map_tiles
 invariant_of-map_tiles g c = record {
   ready = ready _ _ _ _ _ (numbering_of c.args.tiling.now c.args.codes.now _ _ _
       (g.N.EndNumbering.numbers c.args.numbers)
-      c.in_ok-flows.ensures.flows c.deref-2.ensures.value c.in_ok-outlets.ensures.cutting
+      c.in_ok-flows.ensures.flows refl c.in_ok-outlets.ensures.cutting
       c.in_ok-outlets.ensures.outlets c.requires.size c.requires.few);
 }
 
@@ -22,7 +22,7 @@ returns-clause-values g c =
     let d = make_directed t.cols t.rows c.args.codes.now in
     let n = g.N.EndNumbering.numbers c.args.numbers in
     let numbering = numbering_of t c.args.codes.now _ _ _ n c.in_ok-flows.ensures.flows
-    c.deref-2.ensures.value c.in_ok-outlets.ensures.cutting
+    refl c.in_ok-outlets.ensures.cutting
     c.in_ok-outlets.ensures.outlets c.requires.size c.requires.few in
     IfOk-weaker c.map_tiles.result (λ (v : Vec (Option ℕ) Global).
     IsMadeMap t (IsEndNumberAt t c.in_ok-flows.flows.items c.in_ok-outlets.outlets n) v.items)

@@ -1,33 +1,35 @@
-use Rattle.std.proofs.Common.{◌≡◌, ◌+◌, ◌*◌, ◌<◌, refl, sym, ap, ◌∙◌, arith}
-use Rattle.std.proofs.lemmas.Option.{slice_get_read}
+use Rattle.std.proofs.Common.{◌≡◌, ◌+◌, ◌*◌, ◌<◌, sym, ap, ◌∙◌, arith}
 use Rattle.tiles.specs.Cutting.{bounds_of}
 use Rattle.tiles.specs.RimNumbers.{stride}
 use Rattle.tiles.specs.declared.bounds.Bounds.{Bounds}
 use Rattle.tiles.proofs.Cut.{bounds_inside}
+use Rattle.flow.specs.TileFlow.{Flow}
 use Rattle.flow.specs.RimGraph.{target_by, target_in}
 use Rattle.flow.proofs.RimFlows.{target_in_tile}
 use Rattle.flow.proofs.Ranges.{mapped_pushed, mapped_all}
 use Rattle.flow.proofs.rim_graph.push_targets.Goals as goal
 
+pub of_tile-flow-requires : goal.of_tile-flow-requires
+of_tile-flow-requires g c = omega (arith, c.requires.tile, c.requires.flows.1.of_tiles.count)
+
 pub target_of-requires-clause-some_row : goal.target_of-requires-clause-some_row
-target_of-requires-clause-some_row c =
+target_of-requires-clause-some_row g c =
     let s = c.requires.flows.1 in
-    let flow = slice_get_read c.args.flows.now _ c.args.tile c.index-flows-tile.result refl
-    (omega (arith, c.requires.tile, s.of_tiles.count)) c.index-flows-tile.is in
-    let bounds = (s.of_tiles.each c.args.tile c.index-flows-tile.result flow).bounds in
+    let flow = c.of_tile-flow.ensures in
+    let bounds = (s.of_tiles.each c.args.tile flow.0 flow.1).bounds in
     omega (
       arith,
       (bounds_inside c.args.tiling.now c.args.tile s.cutting c.requires.tile).some_row,
       ap (λ (b : Bounds). b.rows) bounds,
+      ap (λ (f : Flow). f.bounds.rows) flow.2,
     )
 
 pub loop-side-preserved : goal.loop-side-preserved
-loop-side-preserved c =
+loop-side-preserved g c =
     let t = c.args.tiling.now in
+    let flows = g.F.ExitList.flows c.args.flows.now in
     let first = c.args.tile * stride (bounds_of t 0) in
-    let s = c.requires.flows.1 in
-    let flow = slice_get_read c.args.flows.now _ c.args.tile c.index-flows-tile.result refl
-    (omega (arith, c.requires.tile, s.of_tiles.count)) c.index-flows-tile.is in
+    let flow = c.of_tile-flow.ensures in
     let below : c.loop-side.side < stride (bounds_of t 0) =
     omega (
       arith,
@@ -36,12 +38,11 @@ loop-side-preserved c =
       c.side_count-side-end.ensures.value,
       ap stride c.bounds-largest.ensures.value,
     ) in
-    let target : c.target_of.result ≡ target_by t c.args.flows.now (first + c.loop-side.side) =
+    let target : c.target_of.result ≡ target_by t (g.F.ExitList.flows c.args.flows.now) (first + c.loop-side.side) =
     c.target_of.ensures
-    ∙ ap (λ (l : Bounds).
-    target_in l c.index-flows-tile.result c.loop-side.side) c.bounds-largest.ensures.value
-    ∙ sym (target_in_tile t c.args.flows.now c.args.tile c.loop-side.side c.index-flows-tile.result
-    below flow) in
-    mapped_all (target_by t c.args.flows.now) _ _ _
-    (mapped_pushed (target_by t c.args.flows.now) (first + c.loop-side.side)
+    ∙ ap (λ (l : Bounds). target_in l c.of_tile-flow.result.now c.loop-side.side) c.bounds-largest.ensures.value
+    ∙ ap (λ (f : Flow). target_in (bounds_of t 0) f c.loop-side.side) flow.2
+    ∙ sym (target_in_tile t flows c.args.tile c.loop-side.side flow.0 below flow.1) in
+    mapped_all (target_by t flows) _ _ _
+    (mapped_pushed (target_by t flows) (first + c.loop-side.side)
     _ _ _ c.loop-side.invariant target c.in_ok-push.ensures.items) (omega arith)

@@ -4,8 +4,8 @@ use Rattle.flow.proofs.Ranges.{mapped_all}
 use Rattle.flow.proofs.rim_graph.rim_links.Goals as goal
 
 pub returns : goal.returns
-returns c =
-    mapped_all (rim_link c.args.tiling.now c.args.flows.now) _ _ _ c.loop-number.invariant
+returns g c =
+    mapped_all (rim_link c.args.tiling.now (g.F.ExitList.flows c.args.flows.now)) _ _ _ c.loop-number.invariant
     (omega (
       arith,
       c.loop-number-test.false,

@@ -5,5 +5,5 @@ use Rattle.flow.specs.RimGraph.{first_targets}
 use Rattle.flow.proofs.rim_graph.rim_targets.Given as goal
 
 abbrev pub invariant-loop-tile : goal.invariant-loop-tile
-invariant-loop-tile l =
-    l.targets.items ≡ first_targets l.tiling l.flows (l.tile * stride (bounds_of l.tiling 0))
+invariant-loop-tile g l =
+    l.targets.items ≡ first_targets l.tiling (g.F.ExitList.flows l.flows) (l.tile * stride (bounds_of l.tiling 0))

@@ -8,26 +8,26 @@ use Rattle.flow.proofs.RimFlows.{links_size, rim_streams, outlets_are}
 use Rattle.flow.proofs.outlets.Outlets.of_flows.Goals as goal
 
 pub rim_outlets-requires-clause-targets : goal.rim_outlets-requires-clause-targets
-rim_outlets-requires-clause-targets c = c.deref.ensures.value ∙ c.requires.targets
+rim_outlets-requires-clause-targets g c = c.deref.ensures.value ∙ c.requires.targets
 
 pub ends-requires-clause-streams : goal.ends-requires-clause-streams
-ends-requires-clause-streams c =
+ends-requires-clause-streams g c =
     rim_streams _ _ _ c.requires.flows.1 _ c.requires.links
 
 pub ends-requires-clause-few : goal.ends-requires-clause-few
-ends-requires-clause-few c = omega (
+ends-requires-clause-few g c = omega (
   arith,
   links_size _ _ _ c.requires.flows.1 _ c.requires.links,
   few_numbers _ c.requires.flows.1.cutting,
 )
 
 pub rim_outlets-requires-clause-size : goal.rim_outlets-requires-clause-size
-rim_outlets-requires-clause-size c =
+rim_outlets-requires-clause-size g c =
     ap length c.deref-2.ensures.value ∙ c.in_ok-ends.ensures.size
     ∙ links_size _ _ _ c.requires.flows.1 _ c.requires.links
 
 pub rim_outlets-requires-clause-inside : goal.rim_outlets-requires-clause-inside
-rim_outlets-requires-clause-inside c =
+rim_outlets-requires-clause-inside g c =
     let made = c.requires.links in
     let size = links_size _ _ _ c.requires.flows.1 _ made in
     λ i h. (let here : i < length c.args.rim_graph.now.links.items = omega (arith, h, size) in
@@ -40,12 +40,12 @@ rim_outlets-requires-clause-inside c =
     ))
 
 pub invariant_of-result : goal.invariant_of-result
-invariant_of-result c =
+invariant_of-result g c =
     ap length c.in_ok-outlets.ensures ∙ length-map-range_with_len (rim_outlet c.args.tiling.now
-    c.args.flows.now c.deref-2.result.now) 0 (rim_number_count c.args.tiling.now)
+    (g.F.ExitList.flows c.args.flows.now) c.deref-2.result.now) 0 (rim_number_count c.args.tiling.now)
 
 pub returns-clause-outlets : goal.returns-clause-outlets
-returns-clause-outlets c d f =
-    outlets_are d c.args.tiling.now c.args.flows.now f _ c.requires.links _ c.in_ok-ends.ensures _
+returns-clause-outlets g c d f =
+    outlets_are d c.args.tiling.now (g.F.ExitList.flows c.args.flows.now) f _ c.requires.links _ c.in_ok-ends.ensures _
     (c.in_ok-outlets.ensures
-    ∙ ap (rim_outlets_by c.args.tiling.now c.args.flows.now) c.deref-2.ensures.value)
+    ∙ ap (rim_outlets_by c.args.tiling.now (g.F.ExitList.flows c.args.flows.now)) c.deref-2.ensures.value)

@@ -1,6 +1,6 @@
 use Rattle.std.proofs.Common.{arith}
 use Rattle.flow.proofs.Piece.{lists_made, piece, streams, few, lists_are, ends_are, exits_are}
-use Rattle.flow.proofs.tile.tile_exits.Goals as goal
+use Rattle.flow.proofs.tile_exits.tile_exits.Goals as goal
 
 pub rim_ends-requires-clause-streams : goal.rim_ends-requires-clause-streams
 rim_ends-requires-clause-streams c =
@@ -28,11 +28,11 @@ invariant_of-result c =
     let s = lists_made _ _ _ _ _ c.requires c.bounds-bounds.ensures.value
     c.bounds-bounds.ensures.inside c.bounds-bounds.ensures.lawful c.in_ok-cells.ensures
     c.deref.ensures.value c.in_ok-links.ensures in
-    lists_are _ _ _ _ _ s _ _ c.in_ok-rim_ends.ensures
+    lists_are _ _ _ _ _ s _ c.in_ok-rim_ends.ensures
 
 pub returns : goal.returns
 returns c =
     let s = lists_made _ _ _ _ _ c.requires c.bounds-bounds.ensures.value
     c.bounds-bounds.ensures.inside c.bounds-bounds.ensures.lawful c.in_ok-cells.ensures
     c.deref.ensures.value c.in_ok-links.ensures in
-    exits_are _ _ _ _ _ s _ (ends_are _) _
+    exits_are _ _ _ _ _ s _ (ends_are _)

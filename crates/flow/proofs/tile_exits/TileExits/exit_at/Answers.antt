@@ -5,7 +5,7 @@ use Rattle.flow.specs.TileFlow.{Flow}
 use Rattle.flow.specs.TileLinks.{ends_by}
 use Rattle.flow.proofs.Listed.{made_at}
 use Rattle.flow.proofs.Piece.{end_listed}
-use Rattle.flow.proofs.tile.TileFlow.exit_at.Goals as goal
+use Rattle.flow.proofs.tile_exits.TileExits.exit_at.Goals as goal
 
 pub returns : goal.returns
 returns c =
@@ -19,7 +19,7 @@ returns c =
     omega (arith, index_in_below b c.args.place inside, c.self.invariant.lawful.codes_size) in
     let end : c.end_in-end.result
     ≡ get_or (ends_by c.self.inside.links) (index_in c.self.inside.bounds c.args.place) 0 =
-    c.end_in-end.ensures ∙ end_listed _ _ _ _ _ c.self.invariant i below in
+    c.end_in-end.ensures ∙ end_listed _ _ _ _ c.self.invariant i below in
     subst (λ (f : Flow). c.where_data.result
     ≡ get_or f.exits (index_in f.bounds c.args.place) None) c.self.view_is
     (c.where_data.ensures

@@ -1,0 +1,10 @@
+use Rattle.std.proofs.Common.{refl, arith}
+use Rattle.std.proofs.lemmas.Option.{slice_get_read}
+use Rattle.flow.proofs.exit_lists.VecTileFlowExitList.of_tile.Goals as goal
+
+pub returns : goal.returns
+returns c = (
+  c.index.result.now,
+  slice_get_read c.args.self.now.items _ c.args.tile c.index.result.now refl (omega (arith, c.requires)) c.index.ensures,
+  c.exits.ensures,
+)

@@ -1,0 +1,9 @@
+use Rattle.std.proofs.Common.{ℕ, Option, sym, subst}
+use Rattle.tiles.specs.Cutting.{View}
+use Rattle.drainage.specs.Drained.{AllFlowEnds}
+use Rattle.flow.specs.TileFlow.{directed_by}
+use Rattle.flow.proofs.flowing.ExitTilesWork.run.Goals as goal
+
+pub tile_exits-requires : goal.tile_exits-requires
+tile_exits-requires c = subst (λ (x : View (Option ℕ)). AllFlowEnds (directed_by x))
+    (sym c.view-view.ensures) c.args.self.now.flows.ends

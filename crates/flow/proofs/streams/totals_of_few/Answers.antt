@@ -1,0 +1,23 @@
+use Rattle.std.proofs.Common.{◌≢◌, ℕ, ◌<◌, List, length, get_or, drop, subst, sym, ◌∙◌}
+use Rattle.std.proofs.lemmas.List.{take_at}
+use Rattle.flow.specs.Sending.{IsSending, AreMarks, IsMarked}
+use Rattle.flow.proofs.Sending.{marks_begin}
+use Rattle.flow.proofs.streams.totals_of_few.Goals as goal
+
+pub send_all-requires : goal.send_all-requires
+send_all-requires g c =
+    let links = g.L.Links.list c.args.links.now in
+    let marks = c.mark_paths.new.waits in
+    let all = c.deref_mut-2.ensures.value ∙ take_at marks (drop (length marks) c.in_ok-waits.waits.items)
+    c.in_ok-waits.waits.len (c.mark_paths.auto.waits ∙ c.deref_mut.ensures.len) in
+    λ κs le. (
+      le,
+      subst (λ (w : List ℕ). IsSending (g.L.Links.list c.args.links.now) w c.deref_mut-2.result.now w)
+          (sym c.deref_mut-3.ensures.value)
+          (marks_begin links c.args.weights.items _ c.requires.streams c.requires.few c.requires.same c.requires.fits 0
+          (subst (λ (l : List ℕ). AreMarks links l 0 0) (sym all) c.mark_paths.ensures.marks)
+          (subst (λ (l : List ℕ). (i : ℕ) → i < length links → get_or c.args.weights.items i 0 ≢ 0 → IsMarked l i)
+          (sym all)
+          (subst (λ (l : List ℕ). (i : ℕ) → i < length links → get_or l i 0 ≢ 0 → IsMarked c.mark_paths.new.waits i)
+          c.deref.ensures.value c.mark_paths.ensures.marked))),
+    )
