@@ -92,7 +92,8 @@ module _ (b : Bounds) (i : ℕ) (p : Place) (at : p ≡ place_in b i) (code : Op
   pub moves_there : IsInBounds b p → IsInBounds b q →
       IsMove b i code (4 * (q.row + 1 - p.row) + (q.col + 1 - p.col))
   moves_there here inside =
-      let parts : 4 * (q.row + 1 - p.row) + (q.col + 1 - p.col) ≡ (q.row + 1 - p.row) * 4 + (q.col + 1 - p.col) = omega arith in
+      let parts : 4 * (q.row + 1 - p.row) + (q.col + 1 - p.col)
+      ≡ (q.row + 1 - p.row) * 4 + (q.col + 1 - p.col) = omega arith in
       let down : (4 * (q.row + 1 - p.row) + (q.col + 1 - p.col)) / 4 ≡ q.row + 1 - p.row =
       ap (λ (n : ℕ). n / 4) parts
       ∙ div-mul-add (q.row + 1 - p.row) 4 (q.col + 1 - p.col) (omega (arith, right_few)) in
@@ -201,13 +202,25 @@ module _ (b : Bounds) (cells : List (Option ℕ)) (moves : List ℕ) (small : En
         s.each i (omega (arith, below, s.size)),
       )))
 
--- What is read for a cell leads to the cell's link.
-pub next_read : (cols : ℕ) (moves links : List ℕ) (i : ℕ) → moved_by cols moves ≡ links →
-    i < length links → (i < length moves) × (reach cols i (get_or moves i 0) - (cols + 1) ≡ get_or links i 0)
-next_read cols moves links i seen h =
-    let there : ℕ → ℕ = λ i. reach cols i (get_or moves i 0) - (cols + 1) in
-    let below : i < length moves = omega (arith, ap length seen, length-map-range_with_len there 0 (length moves)) in (
-      below,
-      sym (get_or-map-range_with_len there 0 (length moves) i i 0 below (omega arith))
-          ∙ ap (λ (l : List ℕ). get_or l i 0) seen,
+pub moves_below : (cols : ℕ) (moves links : List ℕ) (i : ℕ) → moved_by cols moves ≡ links → i < length links →
+    i < length moves
+moves_below cols moves links i seen h = omega (
+  arith,
+  ap length seen,
+  length-map-range_with_len (λ i. reach cols i (get_or moves i 0) - (cols + 1)) 0 (length moves),
+)
+
+-- The move that is read for a cell leads to the cell's link, by numbers that fit.
+pub next_read : (cols : ℕ) (moves links : List ℕ) (i move : ℕ) → AreMoves cols moves →
+    moved_by cols moves ≡ links → i < length links → move ≡ get_or moves i move →
+    (cols + 1 ≤ reach cols i move) × (reach cols i move < 2 ^ 32)
+    × (reach cols i move - (cols + 1) ≡ get_or links i 0)
+next_read cols moves links i move fit seen h read =
+    let below = moves_below cols moves links i seen h in
+    let at = ap (reach cols i) (read ∙ get_or_default moves i move 0 below) in (
+      omega (arith, fit.low i below, at),
+      omega (arith, fit.high i below, at),
+      ap (λ n. n - (cols + 1)) at
+          ∙ sym (get_or-map-range_with_len (λ i. reach cols i (get_or moves i 0) - (cols + 1)) 0 (length moves)
+          i i 0 below (omega arith)) ∙ ap (λ (l : List ℕ). get_or l i 0) seen,
     )

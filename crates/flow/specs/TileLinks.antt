@@ -63,7 +63,8 @@ IsMove b i code move = reach b.cols i move ≡ link_by b i code + (b.cols + 1)
 pub record AreFirstMoves (b : Bounds) (cells : List (Option ℕ)) (count : ℕ) (moves : List ℕ) :
     Type 0 where
   pub size : length moves ≡ count
-  pub each : (i : ℕ) → i < length moves → IsMove b i (slice_index_or cells i None) (slice_index moves i)
+  pub each : (i : ℕ) → i < length moves →
+      IsMove b i (slice_index_or cells i None) (slice_index moves i)
 
 abbrev pub weights_by : List (Option ℕ) → List ℕ
 weights_by cells = map (λ code. if is_some code then 1 else 0) cells

@@ -114,10 +114,9 @@ fn tile_counts(
     requires tile { tile < tile_count inflows.now.cutting }
     ensures { IfOk result (λ v. AreCounts inflows.now tile flow.now v.items) }
 {
-    let exits = flow.exits();
-    let codes = exits.codes();
+    let codes = flow.codes();
     let weights = inflow_weights(alloc, inflows, tile, codes.len())?;
-    let added = totals_of_few(alloc, exits.links(), weights)?;
+    let added = totals_of_few(alloc, flow.links(), weights)?;
     counts(alloc, codes, flow.totals(), &added)
 }
 

@@ -49,7 +49,8 @@ impl Outlets {
         requires targets { rim_graph.now.targets.items ≡ targets_by tiling.now (F.flows flows.now) }
         requires links { rim_graph.now.links.items ≡ rim_links_by tiling.now (F.flows flows.now) }
         ensures cutting { IfOk result (λ o. o.cutting ≡ tiling.now) }
-        ensures outlets { IfOk result (λ o. (d : Directed) → AreFlowsOf d tiling.now (F.flows flows.now) →
+        ensures outlets { IfOk result (λ o. (d : Directed) →
+            AreFlowsOf d tiling.now (F.flows flows.now) →
             AreOutlets d tiling.now (F.flows flows.now) o) }
     {
         let ends = ends(alloc, &rim_graph.links)?;

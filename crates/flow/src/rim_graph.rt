@@ -38,8 +38,10 @@ impl RimGraph {
         flows: &F,
     ) -> Result<RimGraph, AllocError>
         requires { (d : Directed) × AreFlowsOf d tiling.now (F.flows flows.now) }
-        ensures targets { IfOk result (λ x. x.targets.items ≡ targets_by tiling.now (F.flows flows.now)) }
-        ensures links { IfOk result (λ x. x.links.items ≡ rim_links_by tiling.now (F.flows flows.now)) }
+        ensures targets { IfOk result (λ x.
+            x.targets.items ≡ targets_by tiling.now (F.flows flows.now)) }
+        ensures links { IfOk result (λ x.
+            x.links.items ≡ rim_links_by tiling.now (F.flows flows.now)) }
     {
         let targets = rim_targets(alloc, tiling, flows)?;
         let links = rim_links(alloc, tiling, flows, &targets)?;
@@ -99,7 +101,8 @@ fn push_targets<F: ExitList>(
         ≡ first_targets tiling.now (F.flows flows.now) (tile * stride (bounds_of tiling.now 0)) }
     ensures { OnOk result
         (targets.new.items
-        ≡ first_targets tiling.now (F.flows flows.now) ((tile + 1) * stride (bounds_of tiling.now 0))) }
+        ≡ first_targets tiling.now (F.flows flows.now)
+        ((tile + 1) * stride (bounds_of tiling.now 0))) }
 {
     let largest = tiling.bounds(0);
     let flow = flows.of_tile(tile);

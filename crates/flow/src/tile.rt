@@ -8,6 +8,7 @@ ghost use Rattle.flow.specs.TileLinks.{links_by, weights_by, without_counts};
 use crate::cells::tile_weights;
 use crate::streams::totals;
 use crate::tile_exits::{TileExits, tile_exits, where_data};
+use crate::tile_links::TileLinks;
 use drainage::Code;
 use std::alloc::Global;
 use std::marker::Model;
@@ -58,6 +59,22 @@ impl TileFlow {
         ensures { without_counts result.now ≡ without_counts self.now }
     {
         &self.exits
+    }
+
+    /// Returns the codes of the tile's cells, in the tile's row order.
+    #[inline(always)]
+    pub(crate) fn codes(&self) -> &[Option<Code>]
+        ensures { result.now ≡ self.now.codes }
+    {
+        self.exits.codes()
+    }
+
+    /// Returns the links of the tile's cells.
+    #[inline(always)]
+    pub(crate) fn links(&self) -> &TileLinks
+        ensures { result.now ≡ links_by self.now.bounds self.now.codes }
+    {
+        self.exits.links()
     }
 
     /// Returns how many cells' flow paths contain each cell inside the tile, in row order.

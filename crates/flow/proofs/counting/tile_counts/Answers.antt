@@ -8,20 +8,19 @@ use Rattle.flow.specs.Counting.{AreCounts}
 use Rattle.flow.proofs.counting.tile_counts.Goals as goal
 
 pub inflow_weights-requires-clause-size : goal.inflow_weights-requires-clause-size
-inflow_weights-requires-clause-size c = ap length (c.codes-codes.ensures ∙ ap (λ (f : Flow). f.codes) c.exits-exits.ensures)
+inflow_weights-requires-clause-size c = ap length c.codes-codes.ensures
     ∙ c.requires.countable.size
 
 pub totals_of_few-requires-clause-streams : goal.totals_of_few-requires-clause-streams
 totals_of_few-requires-clause-streams c =
-    subst (λ (l : List ℕ). AreStreams l) (sym (c.links.ensures
-    ∙ ap (λ (f : Flow). links_by f.bounds f.codes) c.exits-exits.ensures)) c.requires.countable.streams
+    subst (λ (l : List ℕ). AreStreams l) (sym c.links.ensures) c.requires.countable.streams
 
 pub totals_of_few-requires-clause-few : goal.totals_of_few-requires-clause-few
 totals_of_few-requires-clause-few c = omega (
   arith,
   c.requires.countable.few,
   c.requires.countable.linked,
-  ap length (c.links.ensures ∙ ap (λ (f : Flow). links_by f.bounds f.codes) c.exits-exits.ensures),
+  ap length c.links.ensures,
 )
 
 pub totals_of_few-requires-clause-same : goal.totals_of_few-requires-clause-same
@@ -30,17 +29,16 @@ totals_of_few-requires-clause-same c = omega (
   c.in_ok-weights.ensures.size,
   c.requires.countable.size,
   c.requires.countable.linked,
-  ap length (c.links.ensures ∙ ap (λ (f : Flow). links_by f.bounds f.codes) c.exits-exits.ensures),
+  ap length c.links.ensures,
 )
 
 pub totals_of_few-requires-clause-fits : goal.totals_of_few-requires-clause-fits
 totals_of_few-requires-clause-fits c = λ i h.
-    let linked = c.links.ensures ∙ ap (λ (f : Flow). links_by f.bounds f.codes) c.exits-exits.ensures in
     omega (
       arith,
       c.requires.countable.totals_fit c.in_ok-weights.weights.items c.in_ok-weights.ensures i
-          (omega (arith, h, c.requires.countable.linked, ap length linked)),
-      ap (λ (l : List ℕ). total l c.in_ok-weights.weights.items i) linked,
+          (omega (arith, h, c.requires.countable.linked, ap length c.links.ensures)),
+      ap (λ (l : List ℕ). total l c.in_ok-weights.weights.items i) c.links.ensures,
     )
 
 pub counts-requires-clause-totals : goal.counts-requires-clause-totals
@@ -48,7 +46,7 @@ counts-requires-clause-totals c = omega (
   arith,
   c.totals.ensures.size,
   c.requires.countable.linked,
-  ap length (c.codes-codes.ensures ∙ ap (λ (f : Flow). f.codes) c.exits-exits.ensures),
+  ap length c.codes-codes.ensures,
 )
 
 added_by : (f : Flow) (links weights added : List ℕ) → links ≡ links_by f.bounds f.codes →
@@ -57,33 +55,30 @@ added_by f links weights added made summed = subst (λ (l : List ℕ). AreSums l
 
 pub counts-requires-clause-added : goal.counts-requires-clause-added
 counts-requires-clause-added c =
-    let linked = c.links.ensures ∙ ap (λ (f : Flow). links_by f.bounds f.codes) c.exits-exits.ensures in
     omega (
       arith,
-      (added_by c.args.flow.now _ _ _ linked c.in_ok-added.ensures).size,
+      (added_by c.args.flow.now _ _ _ c.links.ensures c.in_ok-added.ensures).size,
       c.requires.countable.linked,
       ap length c.deref.ensures.value,
-      ap length (c.codes-codes.ensures ∙ ap (λ (f : Flow). f.codes) c.exits-exits.ensures),
+      ap length c.codes-codes.ensures,
     )
 
 pub counts-requires-clause-fits : goal.counts-requires-clause-fits
 counts-requires-clause-fits c = λ i h.
-    let linked = c.links.ensures ∙ ap (λ (f : Flow). links_by f.bounds f.codes) c.exits-exits.ensures in
     let below : i < length c.args.flow.now.codes =
-    omega (arith, h, ap length (c.codes-codes.ensures ∙ ap (λ (f : Flow). f.codes) c.exits-exits.ensures)) in
+    omega (arith, h, ap length c.codes-codes.ensures) in
     let there : i < length (links_by c.args.flow.now.bounds c.args.flow.now.codes) =
     omega (arith, below, c.requires.countable.linked) in
     omega (
       arith,
       c.totals.ensures.each i there,
-      (added_by c.args.flow.now _ _ _ linked c.in_ok-added.ensures).each i there,
+      (added_by c.args.flow.now _ _ _ c.links.ensures c.in_ok-added.ensures).each i there,
       c.requires.countable.totals_fit c.in_ok-weights.weights.items c.in_ok-weights.ensures i below,
       ap (λ (l : List ℕ). get_or l i 0) c.deref.ensures.value,
     )
 
 pub returns : goal.returns
 returns c =
-    let linked = c.links.ensures ∙ ap (λ (f : Flow). links_by f.bounds f.codes) c.exits-exits.ensures in
     IfOk-weaker c.counts.result
     (λ (v : Vec (Option ℕ) Global). v.items ≡ counts_by c.codes-codes.result.now
     (λ i. slice_index c.totals.result.now i + slice_index c.deref.result.now i))
@@ -95,10 +90,11 @@ returns c =
       added = c.in_ok-added.added.items;
       weighed = c.in_ok-weights.ensures;
       counted = c.totals.ensures;
-      summed = added_by c.args.flow.now _ _ _ linked c.in_ok-added.ensures;
+      summed = added_by c.args.flow.now _ _ _ c.links.ensures c.in_ok-added.ensures;
       made = e ∙ ap (λ (x : List (Option ℕ)). counts_by x
           (λ i. slice_index c.totals.result.now i + slice_index c.deref.result.now i))
-          (c.codes-codes.ensures ∙ ap (λ (f : Flow). f.codes) c.exits-exits.ensures)
-          ∙ ap (λ (l : List ℕ). counts_by c.args.flow.now.codes (λ i. slice_index c.totals.result.now i + slice_index l i))
+          c.codes-codes.ensures
+          ∙ ap (λ (l : List ℕ). counts_by c.args.flow.now.codes
+          (λ i. slice_index c.totals.result.now i + slice_index l i))
           c.deref.ensures.value;
     }) c.counts.ensures

@@ -11,7 +11,8 @@ send-requires-clause-fits c = λ k h.
       arith,
       c.loop-number.invariant.each k h,
       sum_more (entering c.args.tiling.now c.args.targets.now c.args.totals.now k) c.loop-number.number,
-      sum_below-part (entering c.args.tiling.now c.args.targets.now c.args.totals.now k) (c.loop-number.number + 1) (rim_number_count c.args.tiling.now)
+      sum_below-part (entering c.args.tiling.now c.args.targets.now c.args.totals.now k)
+          (c.loop-number.number + 1) (rim_number_count c.args.tiling.now)
           (omega (arith, c.loop-number-test.true, c.rim_number_count-number-end.ensures.value)),
       c.requires.few k,
     )
@@ -38,5 +39,6 @@ returns c =
     ) in
     record {
       size = c.loop-number.invariant.size;
-      each = λ k h. c.loop-number.invariant.each k h ∙ ap (sum_below (entering c.args.tiling.now c.args.targets.now c.args.totals.now k)) all;
+      each = λ k h. c.loop-number.invariant.each k h
+          ∙ ap (sum_below (entering c.args.tiling.now c.args.targets.now c.args.totals.now k)) all;
     }

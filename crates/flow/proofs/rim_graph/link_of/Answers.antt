@@ -12,8 +12,8 @@ pub returns-in_default : goal.returns-in_default
 returns-in_default g c =
     ap (number_or c.args.tiling.now c.args.number)
     (ap (λ (o : Option Place).
-    option_and_then (λ q. next_exit_by c.args.tiling.now (g.F.ExitList.flows c.args.flows.now) q) o) (sym c.in_default.is
-    ∙ (target_listed _ _ _ c.requires.targets c.args.number c.requires.number)))
+    option_and_then (λ q. next_exit_by c.args.tiling.now (g.F.ExitList.flows c.args.flows.now) q) o)
+    (sym c.in_default.is ∙ (target_listed _ _ _ c.requires.targets c.args.number c.requires.number)))
 
 pub next_exit-requires-clause-within : goal.next_exit-requires-clause-within
 next_exit-requires-clause-within g c = (target_within

@@ -7,7 +7,8 @@ use Rattle.flow.proofs.streams.send_from.Goals as goal
 pub overflow_add-totals : goal.overflow_add-totals
 overflow_add-totals g c =
     let i = c.downstream.invariant in
-    let fits : get_or c.downstream.totals c.next-next.result 0 + get_or c.downstream.totals c.downstream.node 0 < 2 ^ 32 =
+    let fits : get_or c.downstream.totals c.next-next.result 0 + get_or c.downstream.totals c.downstream.node 0
+    < 2 ^ 32 =
     step_fits _ _ _ _ i.sending c.downstream.node _ i.inside c.downstream-test.true c.next-next.ensures
     c.if-next-node.false in
     search rules

@@ -26,7 +26,8 @@ totals-requires-clause-same c =
 pub totals-requires-clause-fits : goal.totals-requires-clause-fits
 totals-requires-clause-fits c =
     let s = lists_seen _ _ c.in_ok-exits.ensures c.requires c.bounds.ensures.lawful in
-    subst (λ (l : List ℕ). (i : ℕ) → i < length l → total l c.in_ok-weights.weights.items i < 2 ^ 32) (sym c.links.ensures)
+    subst (λ (l : List ℕ). (i : ℕ) → i < length l → total l c.in_ok-weights.weights.items i < 2 ^ 32)
+    (sym c.links.ensures)
     (subst (λ (w : List ℕ). (i : ℕ) → i < length (links_by c.in_ok-exits.exits.bounds c.in_ok-exits.exits.codes) →
     total (links_by c.in_ok-exits.exits.bounds c.in_ok-exits.exits.codes) w i < 2 ^ 32)
     (sym (c.in_ok-weights.ensures ∙ ap weights_by c.codes.ensures)) (fits _ _ _ _ _ s))
@@ -53,7 +54,9 @@ returns c =
     let totals = c.in_ok-totals.totals.items in
     let s = lists_seen _ _ c.in_ok-exits.ensures c.requires c.bounds.ensures.lawful in
     record {
-      exits = exits_kept (directed_by v) v.cutting v.tile f (counts_by f.codes (slice_index totals)) c.in_ok-exits.ensures;
+      exits = exits_kept (directed_by v) v.cutting v.tile f (counts_by f.codes (slice_index totals))
+          c.in_ok-exits.ensures;
       counts = counts_are _ _ _ _ _ s totals (summed_by f _ _ _ c.links.ensures
-          (c.in_ok-weights.ensures ∙ ap weights_by c.codes.ensures) c.in_ok-totals.ensures) (with_counts f totals) refl refl;
+          (c.in_ok-weights.ensures ∙ ap weights_by c.codes.ensures) c.in_ok-totals.ensures) (with_counts f totals)
+          refl refl;
     }

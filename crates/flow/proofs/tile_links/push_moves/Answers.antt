@@ -15,7 +15,8 @@ loop-col-preserved c =
       c.requires.size,
       mul-add-lt c.args.row c.args.bounds.cols c.loop-col.col c.args.bounds.rows c.requires.row c.loop-col-test.true,
     ) in
-    let cell : c.index-cells-index.result ≡ get_or c.args.cells.now (c.args.row * c.args.bounds.cols + c.loop-col.col) None =
+    let cell : c.index-cells-index.result
+    ≡ get_or c.args.cells.now (c.args.row * c.args.bounds.cols + c.loop-col.col) None =
     c.index-cells-index.is ∙ get_or_default cells _ c.index-cells-index.result None below in
     record {
       size = omega (

@@ -5,6 +5,6 @@ use Rattle.flow.proofs.exit_lists.VecTileFlowExitList.of_tile.Goals as goal
 pub returns : goal.returns
 returns c = (
   c.index.result.now,
-  slice_get_read c.args.self.now.items _ c.args.tile c.index.result.now refl (omega (arith, c.requires)) c.index.ensures,
+  slice_get_read c.args.self.now.items _ c.args.tile _ refl (omega (arith, c.requires)) c.index.ensures,
   c.exits.ensures,
 )
