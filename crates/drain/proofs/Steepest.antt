@@ -1,17 +1,20 @@
 -- The steepest way has the greatest drop on the even ways, along a row or column, or that on the
 -- odd ways, the diagonals. The drop of greater weight decides, of equal ones the first. Ways are the
 -- directions, 0 to 7 in code order.
-use Rattle.std.proofs.Common.{◌≡◌, ℕ, ◌+◌, ◌*◌, ◌<◌, ◌≤◌, ◌%◌, ◌⊎◌, inl, inr, eqb, ltb, Bool, length, get_or, List, Option, None, Some, fold, max, cond, true, false, ℤ, refl, sym, ap, subst, ◌∙◌, arith}
+use Rattle.std.proofs.Common.{◌≡◌, ℕ, ◌+◌, ◌*◌, ◌<◌, ◌≤◌, ◌%◌, ◌⊎◌, inl, inr, eqb, ltb, Bool, length, get_or, List, Option, None, Some, fold, max, cond, true, false, ℤ, pos, negsuc, ◌-ℤ◌, ◌≤ℤ◌, ◌<ℤ◌, IfSome, unwrap_or, refl, sym, ap, ◌∙◌, arith}
 use Rattle.std.proofs.lemmas.Bool.{cases_eq, cases_lt, eq-eqb, eqb-true, ne_eqb, lt-ltb, le-ltb, cond-true, cond-false, false≢true}
 use Rattle.std.proofs.lemmas.List.Folds.{list_any_at}
 use Rattle.std.proofs.lemmas.List.Quantifiers.{position-Some}
 use Rattle.std.proofs.lemmas.Nat.{mul-le, mul-lt}
+use Rattle.std.proofs.lemmas.Int.{ints}
+use Rattle.terrain.specs.Raster.{IsHeight}
+use Rattle.terrain.specs.StoredCells.{no_data}
 use Rattle.terrain.specs.Ways.{code_of}
 use Rattle.std.specs.Prelude.{option_map}
 use Rattle.std.specs.Bool.{then_some}
 use Rattle.std.specs.List.{list_any, position}
-use Rattle.drain.specs.Drops.{HasHeights, drop_by, drop_on, weight_on, IsGreatestFall, HasNoWayDown, IsSteepestWay, IsFirstSteepest}
-use Rattle.drain.specs.Steepness.{weight, weights, drop_to, leads_on, direction_of}
+use Rattle.drain.specs.Drops.{HasHeights, drop_by, drop_on, weight_on, IsGreatestFall, IsLowestWay, HasNoWayDown, IsSteepestWay, IsFirstSteepest, number_on}
+use Rattle.drain.specs.Steepness.{positive_part, weight, weights, drop_to, leads_on, direction_of}
 use Rattle.drain.specs.Fitting.{IsFitting}
 use Rattle.drain.specs.declared.around.Around.{Around}
 use Rattle.drain.proofs.Greatest.{first_passes, fold_attained, fold-max_least, le-fold_max, none_passes, position_is}
@@ -49,6 +52,67 @@ weight_rises k way a b same = elim (cases_eq (way % 2) 0) [
   ))
 ]
 
+part_low : (x y : ℤ) → x ≤ℤ y → positive_part x ≤ positive_part y
+part_low (pos a) (pos b) le = omega (arith, ints)
+part_low (pos a) (negsuc b) le = absurd (omega (arith, ints))
+part_low (negsuc a) y le = omega arith
+
+part_less : (x y : ℤ) → x <ℤ y → 0 < positive_part y → positive_part x < positive_part y
+part_less (pos a) (pos b) less some = omega (arith, ints)
+part_less (pos a) (negsuc b) less some = absurd (omega arith)
+part_less (negsuc a) y less some = some
+
+-- to the lower of two cells the drop is not less, and greater if it is above 0
+drops : (level : ℤ) (a b : Option ℤ) → IfSome b IsHeight →
+    (unwrap_or a no_data ≤ℤ unwrap_or b no_data → drop_by level b ≤ drop_by level a)
+    × (unwrap_or a no_data <ℤ unwrap_or b no_data → 0 < drop_by level a → drop_by level b < drop_by level a)
+drops level a None within = (λ le. omega arith, λ less some. some)
+drops level None (Some h) within =
+    (λ le. absurd (omega (arith, ints, le, within.1)), λ less some. absurd (omega (arith, some)))
+drops level (Some g) (Some h) within = (
+  λ le. part_low (level -ℤ h) (level -ℤ g) (omega (arith, ints, le)),
+  λ less. part_less (level -ℤ h) (level -ℤ g) (omega (arith, ints, less)),
+)
+
+-- one way more, lower than those before it or not
+pub lowest_next : (heights : List (Option ℤ)) (parity turn way next : ℕ) → next ≡ 2 * turn + parity → parity < 2 →
+    IsLowestWay heights parity turn way →
+    (number_on heights next <ℤ number_on heights way → IsLowestWay heights parity (turn + 1) next)
+    × (number_on heights way ≤ℤ number_on heights next → IsLowestWay heights parity (turn + 1) way)
+lowest_next heights parity turn way next is two low = (
+  λ less. record {
+    within = omega (arith, is, two);
+    among = omega (arith, is, two);
+    bound = λ k below e. elim (cases_eq k next) [
+      | inl here ↦ rw here (omega (arith, ints))
+      | inr ne ↦ omega (arith, ints, less, low.bound k (omega (arith, is, two, below, e, ne)) e)
+    ];
+    first = λ k under e. omega (arith, ints, less, low.bound k (omega (arith, is, two, under, e)) e);
+  },
+  λ le. record {
+    within = omega (arith, low.within);
+    among = low.among;
+    bound = λ k below e. elim (cases_eq k next) [
+      | inl here ↦ rw here le
+      | inr ne ↦ low.bound k (omega (arith, is, two, below, e, ne)) e
+    ];
+    first = low.first;
+  },
+)
+
+-- the lowest cell has the greatest drop
+pub lowest_falls : (level : ℤ) (heights : List (Option ℤ)) (parity way : ℕ) →
+    ((k : ℕ) → k < 8 → IfSome (get_or heights k None) IsHeight) → IsLowestWay heights parity 4 way →
+    IsGreatestFall level heights parity 4 way
+lowest_falls level heights parity way within low = record {
+  within = low.within;
+  among = low.among;
+  bound = λ k below e. (drops level (get_or heights way None) (get_or heights k None) (within k below)).0
+      (low.bound k below e);
+  first = λ some k less e. (drops level (get_or heights way None) (get_or heights k None)
+      (within k (omega (arith, less, low.within)))).1 (low.first k less e) some;
+}
+
 -- The fall of one parity weighs no less than that of the other, and weighs more or comes first.
 module _ (level : ℤ) (heights : List (Option ℤ)) (x y way other : ℕ)
     (own : IsGreatestFall level heights x 4 way) (beside : IsGreatestFall level heights y 4 other)
@@ -69,12 +133,22 @@ module _ (level : ℤ) (heights : List (Option ℤ)) (x y way other : ℕ)
       down = omega (arith, some, is);
       bound = bounded;
       first = λ k less. elim (cases_eq (k % 2) x) [
-        | inl e ↦ (weight_rises k way _ _ (e ∙ sym own.among)).1 (own.first k less e)
+        | inl e ↦ (weight_rises k way _ _ (e ∙ sym own.among)).1 (own.first (omega (arith, some, is)) k less e)
         | inr ne ↦ (let e : k % 2 ≡ y = omega (arith, ne, apart) in
             let rises = weight_rises k other (drop_on level heights k) (drop_on level heights other)
-            (e ∙ sym beside.among) in elim before.1 [
-              | inl first ↦ omega (arith, rises.1 (beside.first k (omega (arith, less, first)) e), before.0)
-              | inr more ↦ omega (arith, rises.0 (beside.bound k (omega (arith, less, own.within)) e), more)
+            (e ∙ sym beside.among) in
+            let le = rises.0 (beside.bound k (omega (arith, less, own.within)) e) in
+            elim before.1 [
+              | inl first ↦ elim (cases_lt 0 (drop_on level heights other)) [
+                | inl down ↦ omega (arith, rises.1 (beside.first down k (omega (arith, less, first)) e), before.0)
+                | inr flat ↦ omega (
+                  arith,
+                  le,
+                  weightless other (drop_on level heights other) (omega (arith, flat)),
+                  some_weight way (drop_on level heights way) (omega (arith, some, is)),
+                )
+              ]
+              | inr more ↦ omega (arith, le, more)
             ])
       ];
     })

@@ -10,7 +10,7 @@ ghost use Rattle.std.specs.List.{list_any};
 ghost use Rattle.std.specs.Option.{option_zip};
 ghost use Rattle.terrain.specs.Raster.{IsHeight, greatest_drop};
 ghost use Rattle.drain.specs.Steepness.{direction_of, leads_on};
-ghost use Rattle.drain.specs.Drops.{HasHeights, IsFirstSteepest, IsGreatestFall, drop_by, drop_on};
+ghost use Rattle.drain.specs.Drops.{HasHeights, IsFirstSteepest, IsGreatestFall, IsLowestWay, drop_by, drop_on};
 ghost use Rattle.drain.specs.Fitting.{IsFitting};
 ghost use Rattle.drain.specs.declared.around.Around.{Around};
 
@@ -42,6 +42,34 @@ fn drop_to(level: Height, cell: Cell) -> u64
     }
 }
 
+/// The lowest cell on the ways of one parity, and the first way with it.
+#[derive(Clone, Copy)]
+struct Lowest {
+    cell: Cell,
+    way: usize,
+}
+
+/// Returns the lowest cell on the ways of one parity, and the first way with it.
+/// The number of a cell without data is above each height.
+#[inline(always)]
+fn lowest_cell(heights: &[Cell; 8], parity: usize) -> Lowest
+    requires { parity < 2 }
+    ensures way { IsLowestWay heights.now parity 4 result.way }
+    ensures cell { result.cell ≡ slice_index_or heights.now result.way None }
+{
+    let mut cell = heights[parity];
+    let mut way = parity;
+    for turn in 1..4 {
+        let next = 2 * turn + parity;
+        let other = heights[next];
+        if other.number() < cell.number() {
+            cell = other;
+            way = next;
+        }
+    }
+    Lowest { cell, way }
+}
+
 /// Returns the greatest drop on the ways of one parity, and the first way with it.
 #[inline(always)]
 fn greatest_fall(level: Height, heights: &[Cell; 8], parity: usize) -> Fall
@@ -52,18 +80,11 @@ fn greatest_fall(level: Height, heights: &[Cell; 8], parity: usize) -> Fall
     ensures drop { result.drop ≡ drop_on level heights.now result.way }
     ensures bound { result.drop ≤ greatest_drop }
 {
-    let mut greatest = Fall {
-        drop: drop_to(level, heights[parity]),
-        way: parity,
-    };
-    for turn in 1..4 {
-        let way = 2 * turn + parity;
-        let drop = drop_to(level, heights[way]);
-        if drop > greatest.drop {
-            greatest = Fall { drop, way };
-        }
+    let lowest = lowest_cell(heights, parity);
+    Fall {
+        drop: drop_to(level, lowest.cell),
+        way: lowest.way,
     }
-    greatest
 }
 
 #[inline(always)]
