@@ -1,17 +1,20 @@
 -- A far block, of 128 by 128 cells, holds up to 8 by 8 near blocks. An upper bound of the entries
--- of these is an upper bound of the far block's heights. The lists of two successive runs of
--- blocks, joined, are the list of both runs.
-use Rattle.std.proofs.Common.{arith, refl, sym, ap, subst, ◌∙◌, ◌≡◌, ◌+◌, ◌-◌, ◌*◌, ◌/◌, ◌%◌, ◌<◌, ◌≤◌, ℕ, ℤ, List, [], ◌∷◌, ◌++◌, length, length-append, get_or, get_or-take, get_or-drop, drop, slice_range, ◌≤ℤ◌, Option, None, Some, inl, inr}
+-- of these is an upper bound of the far block's heights. A near block begins in one tile.
+use Rattle.std.proofs.Common.{arith, refl, ap, subst, ◌∙◌, ◌≡◌, ◌+◌, ◌-◌, ◌*◌, ◌/◌, ◌<◌, ◌≤◌, ℕ, ℤ, List, length, get_or, get_or-take, get_or-drop, drop, slice_range, ◌≤ℤ◌, Option, None, Some, inl, inr}
 use Rattle.std.proofs.lemmas.Bool.{cases_lt}
 use Rattle.std.proofs.lemmas.List.{get_or_past}
 use Rattle.std.proofs.lemmas.Int.{ints}
-use Rattle.std.proofs.lemmas.Nat.{div-add-mod', mod_below, mul-le, div-mul-add, mod-mul-add, mul-add-lt}
-use Rattle.std.proofs.Math.ListN.{get_or-append}
-use Rattle.std.proofs.Math.Seq.{get_or-append_right}
+use Rattle.std.proofs.lemmas.Nat.{div-add-mod', mod_below, mul-le}
+use Rattle.std.proofs.lemmas.Option.{slice_get-get_or}
 use Rattle.terrain.specs.Raster.{Terrain}
+use Rattle.terrain.specs.declared.place.Place.{Place}
 use Rattle.terrain.proofs.Places.{make_place, inside_from_entry, entry-inside}
 use Rattle.sightlines.specs.Blocks.{blocks_in, block_of, IsTopOf, AreTops}
-use Rattle.sight.specs.BlockTops.{ground_of, IsGround, IsBlockTop, block_count, AreTopsBetween}
+use Rattle.tiles.specs.Cutting.{IsInBounds, index_in, place_in}
+use Rattle.tiles.specs.declared.bounds.Bounds.{Bounds}
+use Rattle.tiles.proofs.TileOrder.{index_in_below, index_in-place_in, place_in_bounds}
+use Rattle.tile_maps.specs.Maps.{IsMadeUpTo}
+use Rattle.sight.specs.BlockTops.{ground_of, IsGround, IsBlockTop, all_blocks, blocks_begun}
 use Rattle.sightlines.proofs.LowBlocks.{block_before}
 
 pub swapped : (a b : ℕ) → a * b ≡ b * a
@@ -104,73 +107,46 @@ tops_of_tops t near far low high = record {
       (low.above p h is);
 }
 
-pub no_tops : (size : ℕ) (t : Terrain) (from : ℕ) → AreTopsBetween size t from from []
-no_tops size t from = record {
-  count = omega arith;
-  heights = λ i h is. let none = get_or_past {X = Option ℤ} [] i None (omega arith) in absurd (cc);
-  above = λ p h low high is. absurd (omega arith);
-}
+-- a list with an upper bound for each block, made in row order, bounds all heights
+pub made_tops : (size : ℕ) (t : Terrain) (tops : List (Option ℤ)) → 0 < size →
+    IsMadeUpTo (all_blocks size t.rows t.cols) (IsBlockTop size t)
+    (blocks_in size t.rows * blocks_in size t.cols) tops → AreTops size t tops
+made_tops size t tops some made =
+    let b = all_blocks size t.rows t.cols in
+    let top : (q : Place) → IsInBounds b q →
+    IsBlockTop size t q (get_or tops (index_in b q) None) = λ q inside.
+    let below = index_in_below b q inside in
+    made.each q inside below (get_or tops (index_in b q) None)
+    (slice_get-get_or tops (index_in b q) None (omega (arith, below, made.size))) in
+    record {
+      count = made.size;
+      heights = λ i h is. elim (cases_lt i (length tops)) [
+        | inl within ↦
+            let below : i < b.rows * b.cols = omega (arith, made.size) in
+            let inside = place_in_bounds b i (positive b.rows b.cols i below) below in
+            (top (place_in b i) inside).height h
+            (ap (λ n. get_or tops n None) (index_in-place_in b i) ∙ is)
+        | inr past ↦ let none = get_or_past tops i None past in absurd (cc)
+      ];
+      above = λ p h is.
+          let at = inside_from_entry t.cols t.rows t.cells p h is in
+          let q = make_place (p.row / size) (p.col / size) in
+          let row = block_before size p.row t.rows some at.0 in
+          let col = block_before size p.col t.cols some at.1 in
+          let own : index_in b q ≡ block_of size t p =
+          ap (λ n. n * b.cols + (q.col - 0)) (whole q.row) ∙ ap (λ n. q.row * b.cols + n) (whole q.col)
+          in subst (λ n. IsTopOf (get_or tops n None) h) own
+          ((top q (omega arith, omega (arith, row), omega arith, omega (arith, col))).above p h refl refl is);
+    }
+  where
+    whole : (n : ℕ) → n - 0 ≡ n
+    whole n = omega arith
 
--- the list of one bound, of block k, has the bounds of blocks k to below k + 1
-pub one_top : (size k : ℕ) (t : Terrain) (top : Option ℤ) → 0 < size
-    → IsBlockTop size t (make_place (k / blocks_in size t.cols) (k % blocks_in size t.cols)) top
-    → AreTopsBetween size t k (k + 1) (top ∷ [])
-one_top size k t top some is = record {
-  count = omega arith;
-  heights = λ i h at. elim (cases_lt i 1) [
-    | inl first ↦
-        let zero : i ≡ 0 = omega arith in
-        is.height h (ap (λ n. get_or (top ∷ []) n None) (sym zero) ∙ at)
-    | inr past ↦ let none = get_or_past (top ∷ []) i None past in absurd (cc)
-  ];
-  above = λ p h low high there.
-      let wide = blocks_in size t.cols in
-      let inside = inside_from_entry t.cols t.rows t.cells p h there in
-      let col : p.col / size < wide = block_before size p.col t.cols some inside.1 in
-      let at : p.row / size * wide + p.col / size ≡ k = omega arith in
-      let row_is : p.row / size ≡ k / wide =
-      sym (div-mul-add (p.row / size) wide (p.col / size) col) ∙ ap (λ n. n / wide) at in
-      let col_is : p.col / size ≡ k % wide =
-      sym (mod-mul-add (p.row / size) wide (p.col / size) col) ∙ ap (λ n. n % wide) at in
-      let zero : 0 ≡ block_of size t p - k = omega arith in
-      subst (λ n. IsTopOf (get_or (top ∷ []) n None) h) zero (is.above p h row_is col_is there);
-}
+    positive : (r c k : ℕ) → k < r * c → 1 ≤ c
+    positive r c k h = grind arith
 
-pub joined_tops : (size : ℕ) (t : Terrain) (from between to : ℕ) (first next : List (Option ℤ))
-    → AreTopsBetween size t from between first → AreTopsBetween size t between to next
-    → AreTopsBetween size t from to (first ++ next)
-joined_tops size t from between to first next left right = record {
-  count = omega (arith, length-append first next);
-  heights = λ i h is. elim (cases_lt i (length first)) [
-    | inl low ↦ left.heights i h (sym (get_or-append first next None i low) ∙ is)
-    | inr high ↦
-        right.heights (i - length first) h (sym (get_or-append_right first next i None high) ∙ is)
-  ];
-  above = λ p h low high is. elim (cases_lt (block_of size t p) between) [
-    | inl before ↦
-        let at = get_or-append first next None (block_of size t p - from) (omega arith) in
-        rw at (left.above p h low before is)
-    | inr behind ↦
-        let at = get_or-append_right first next (block_of size t p - from) None (omega arith) in
-        let place : block_of size t p - from - length first ≡ block_of size t p - between =
-        omega arith in
-        rw (at, place) (right.above p h behind high is)
-  ];
-}
-
-pub all_tops : (size : ℕ) (t : Terrain) (tops : List (Option ℤ)) → 0 < size
-    → AreTopsBetween size t 0 (block_count size t) tops → AreTops size t tops
-all_tops size t tops some are = record {
-  count = omega (arith, are.count);
-  heights = are.heights;
-  above = λ p h is.
-      let inside = inside_from_entry t.cols t.rows t.cells p h is in
-      let row = block_before size p.row t.rows some inside.0 in
-      let col = block_before size p.col t.cols some inside.1 in
-      let below = mul-add-lt (p.row / size) (blocks_in size t.cols) (p.col / size)
-      (blocks_in size t.rows) row col in
-      let own : block_of size t p - 0 ≡ block_of size t p = omega arith in
-      subst (λ n. IsTopOf (get_or tops n None) h) own
-      (are.above p h (omega arith)
-      (omega (arith, below, swapped (blocks_in size t.rows) (blocks_in size t.cols))) is);
-}
+-- a block whose first cell lies in the bounds is among the blocks that begin there
+pub begins_there : (b : Bounds) (block : Place) →
+    IsInBounds b (make_place (block.row * 16) (block.col * 16)) → IsInBounds (blocks_begun b) block
+begins_there b block first =
+    (omega (arith, first), omega (arith, first), omega (arith, first), omega (arith, first))

@@ -1,11 +1,14 @@
 -- Upper bounds of the heights of blocks of `size` by `size` cells, one bound for each block.
 -- Private.
-use Rattle.std.specs.Prelude.{◌≡◌, ℕ, ◌+◌, ◌-◌, ◌*◌, ◌/◌, ◌<◌, ◌≤◌, ℤ, List, [], length, min, Option, None, Some, slice_index_or}
+use Rattle.std.specs.Prelude.{◌≡◌, ℕ, ◌+◌, ◌-◌, ◌*◌, ◌/◌, ◌<◌, ◌≤◌, ℤ, List, [], length, Option, Some}
 use Rattle.terrain.specs.Raster.{Terrain, IsHeight}
 use Rattle.terrain.specs.Neighbours.{height_at}
 use Rattle.terrain.specs.declared.place.Place.{Place}
+use Rattle.tiles.specs.Cutting.{Cutting, bounds_of}
+use Rattle.tiles.specs.declared.bounds.Bounds.{Bounds}
+use Rattle.tile_maps.specs.Maps.{IsMadeUpTo}
 use Rattle.sightlines.specs.Walk.{AreHeights}
-use Rattle.sightlines.specs.Blocks.{blocks_in, block_of, IsTopOf}
+use Rattle.sightlines.specs.Blocks.{blocks_in, IsTopOf}
 
 -- A list of cells in row order, as a terrain without sinks.
 abbrev pub ground_of : ℕ → ℕ → List (Option ℤ) → Terrain
@@ -30,27 +33,22 @@ pub record IsBlockTop (size : ℕ) (t : Terrain) (block : Place) (top : Option �
   pub above : (p : Place) (h : ℤ) → p.row / size ≡ block.row → p.col / size ≡ block.col →
       height_at t p ≡ Some h → IsTopOf top h
 
--- The number of blocks that hold the terrain's cells.
-abbrev pub block_count : ℕ → Terrain → ℕ
-block_count size t = blocks_in size t.rows * blocks_in size t.cols
+-- All blocks of `rows` by `cols` cells, by the blocks' rows and columns.
+abbrev pub all_blocks : ℕ → ℕ → ℕ → Bounds
+all_blocks size rows cols =
+    record { top = 0; left = 0; rows = blocks_in size rows; cols = blocks_in size cols }
 
--- The list has an entry for each block of index `from` to below `to`, in row order. No height of a
--- block is above the block's entry: a height within limits, or None, which only a block without
--- heights may have.
-pub record AreTopsBetween (size : ℕ) (t : Terrain) (from to : ℕ)
-    (tops : List (Option ℤ)) : Type 0 where
-  pub count : from + length tops ≡ to
-  pub heights : AreHeights tops
-  pub above : (p : Place) (h : ℤ) → from ≤ block_of size t p → block_of size t p < to
-      → height_at t p ≡ Some h → IsTopOf (slice_index_or tops (block_of size t p - from) None) h
+-- The near blocks whose first cell lies in the bounds, by the blocks' rows and columns.
+abbrev pub blocks_begun : Bounds → Bounds
+blocks_begun b = record {
+  top = blocks_in 16 b.top;
+  left = blocks_in 16 b.left;
+  rows = blocks_in 16 (b.top + b.rows) - blocks_in 16 b.top;
+  cols = blocks_in 16 (b.left + b.cols) - blocks_in 16 b.left;
+}
 
--- The index of the first block of job `job`, if each job has `share` blocks; at most `count`, the
--- number of blocks.
-abbrev pub share_start : ℕ → ℕ → ℕ → ℕ
-share_start count share job = min count (job * share)
-
--- The list has an entry for each block of a job, as in `AreTopsBetween`.
-abbrev pub AreTopsOfShare : ℕ → Terrain → ℕ → ℕ → List (Option ℤ) → Type 0
-AreTopsOfShare size t share job =
-    let start = share_start (block_count size t) share in
-    AreTopsBetween size t (start job) (start (job + 1))
+-- The list has an upper bound for each near block that begins in the tile, in row order.
+abbrev pub IsTileTops : Cutting → Terrain → ℕ → List (Option ℤ) → Type 0
+IsTileTops c t tile tops =
+    let b = blocks_begun (bounds_of c tile) in
+    IsMadeUpTo b (IsBlockTop 16 t) (b.rows * b.cols) tops

@@ -1,12 +1,18 @@
 //! Finds the greatest height of each block of 16 by 16 and of 128 by 128 cells (`tops_of`).
-ghost use Rattle.std.specs.Prelude.{◌≡◌, ℕ, ℤ, ◌<◌, ◌≤◌, slice_index_or, None, Some, IfOk};
-ghost use Rattle.sightlines.specs.Walk.{AreHeights};
-ghost use Rattle.tile_jobs.specs.Fault.{RefusesWorkers};
-ghost use Rattle.sightlines.specs.Blocks.{IsTopOf, AreTops, IsTops};
-ghost use Rattle.sight.specs.BlockTops.{ground_of, IsGround, IsBlock, IsBlockTop, block_count, AreTopsBetween};
+//!
+//! A tile's job finds those of the near blocks that begin in the tile, so each block has one job.
+ghost use Rattle.std.specs.Prelude.{◌≡◌, ℕ, ℤ, ◌<◌, ◌≤◌, length, Vec, Option, slice_index_or, None, Some, IfOk};
+ghost use Rattle.std.specs.declared.alloc.Global.{Global};
+ghost use Rattle.std.proofs.Props.{props};
 ghost use Rattle.terrain.specs.Raster.{IsHeight};
-ghost use Rattle.tiles.specs.Cutting.{most_tiles};
+ghost use Rattle.tiles.specs.Cutting.{Cuts, IsWithinLimits, tile_count};
+ghost use Rattle.tile_jobs.specs.Fault.{RefusesWorkers};
+ghost use Rattle.tile_jobs.specs.Results.{AreResults};
+ghost use Rattle.sightlines.specs.Walk.{AreHeights};
+ghost use Rattle.sightlines.specs.Blocks.{IsTopOf, AreTops, IsTops};
+ghost use Rattle.sight.specs.BlockTops.{ground_of, IsGround, IsBlock, IsBlockTop, IsTileTops, all_blocks, blocks_begun};
 
+use crate::by_place::{PlaceMap, entries};
 use crate::heights::{greater_height, height_at};
 use sightlines::{FAR_BLOCK, MaxHeights, NEAR_BLOCK, blocks_in};
 use std::alloc::{AllocError, Global};
@@ -15,6 +21,7 @@ use std::thread::Threads;
 use terrain::{Cell, Grid, Height, LOWEST, Place};
 use tile_jobs::{Gate, JobFault, Work};
 use tile_maps::Runner;
+use tiles::{Bounds, Tiling};
 
 /// Returns the greatest height of some cells, or `None` where all are NODATA.
 #[inline(always)]
@@ -54,14 +61,6 @@ struct Blocks<'a> {
 }
 
 impl<'a> Blocks<'a> {
-    fn count(&self) -> usize
-        ensures value { result ≡ block_count self.now.size
-            (ground_of self.now.cols self.now.rows self.now.cells.now) }
-        ensures few { result ≤ 16777216 }
-    {
-        blocks_in(self.size, self.rows) * blocks_in(self.size, self.cols)
-    }
-
     /// Returns the greatest height of a block, as a cell.
     #[inline(always)]
     fn top(&self, block: Place) -> Cell
@@ -82,87 +81,148 @@ impl<'a> Blocks<'a> {
         top_cell(top)
     }
 
-    /// Returns the greatest heights of blocks `from` to below `to`, in row order.
-    fn tops(&self, alloc: Global, from: usize, to: usize) -> Result<Vec<Cell>, AllocError>
-        requires order { from ≤ to }
-        requires inside { to ≤ block_count self.now.size
-            (ground_of self.now.cols self.now.rows self.now.cells.now) }
-        ensures { IfOk result (λ v.
-            AreTopsBetween self.now.size
-            (ground_of self.now.cols self.now.rows self.now.cells.now) from to v.items) }
+    /// Returns the greatest heights of all blocks, in row order.
+    fn tops(&self, alloc: Global) -> Result<Vec<Cell>, AllocError>
+        ensures { IfOk result (λ v. AreTops self.now.size
+            (ground_of self.now.cols self.now.rows self.now.cells.now) v.items) }
     {
-        let wide = blocks_in(self.size, self.cols);
-        let mut tops = Vec::with_capacity(alloc, to - from)?;
-        for block in from..to {
-            let row = (block / wide) as u32;
-            let col = (block % wide) as u32;
-            tops.push(self.top(Place { row, col }))?;
+        entries(self, alloc, self.bounds())
+    }
+
+    /// Returns the rows and columns of all blocks.
+    fn bounds(&self) -> Bounds
+        ensures { result ≡ all_blocks self.now.size self.now.rows self.now.cols }
+    {
+        Bounds {
+            top: 0,
+            left: 0,
+            rows: blocks_in(self.size, self.rows) as u32,
+            cols: blocks_in(self.size, self.cols) as u32,
         }
-        Ok(tops)
     }
 }
 
-/// Jobs that each find the greatest heights of up to `share` blocks in row order.
-#[derive(Drop)]
-struct BlockShares<'a> {
-    blocks: &'a Blocks<'a>,
-    share: usize,
-    ghost small: { share ≤ 16777216 },
+impl<'a> PlaceMap for Blocks<'a> {
+    ghost use Rattle.sight.specs.BlockTops.{ground_of, IsBlock, IsBlockTop};
+
+    type Entry = Cell;
+
+    ghost inside = { λ m. IsBlock m.size (ground_of m.cols m.rows m.cells.now) };
+
+    ghost has = { λ m. IsBlockTop m.size (ground_of m.cols m.rows m.cells.now) };
+
+    fn entry(&self, block: Place) -> Cell {
+        self.top(block)
+    }
 }
 
-impl<'a> Work for BlockShares<'a> {
-    ghost use Rattle.tiles.specs.Cutting.{most_tiles};
-    ghost use Rattle.sight.specs.BlockTops.{ground_of, AreTopsOfShare};
+/// Returns the rows and columns of the near blocks whose first cell is in the bounds.
+fn blocks_begun(bounds: Bounds) -> Bounds
+    requires { IsWithinLimits bounds }
+    ensures { result ≡ blocks_begun bounds }
+{
+    let top = blocks_in(NEAR_BLOCK, bounds.top) as u32;
+    let left = blocks_in(NEAR_BLOCK, bounds.left) as u32;
+    Bounds {
+        top,
+        left,
+        rows: blocks_in(NEAR_BLOCK, bounds.top + bounds.rows) as u32 - top,
+        cols: blocks_in(NEAR_BLOCK, bounds.left + bounds.cols) as u32 - left,
+    }
+}
+
+/// Jobs that each find the greatest heights of the near blocks that begin in a tile.
+#[derive(Drop)]
+struct TileBlocks<'a> {
+    blocks: &'a Blocks<'a>,
+    tiling: &'a Tiling,
+    ghost near: { blocks.now.size ≡ 16 },
+    ghost cut: { (tiling.now.cols ≡ blocks.now.cols) × (tiling.now.rows ≡ blocks.now.rows) },
+}
+
+impl<'a> Work for TileBlocks<'a> {
+    ghost use Rattle.tiles.specs.Cutting.{tile_count};
+    ghost use Rattle.sight.specs.BlockTops.{ground_of, IsTileTops};
 
     type Out = Vec<Cell>;
 
-    ghost most = { λ w. most_tiles };
+    ghost most = { λ w. tile_count w.tiling.now };
 
-    ghost gives = { λ w job out.
-        AreTopsOfShare w.blocks.now.size
-        (ground_of w.blocks.now.cols w.blocks.now.rows w.blocks.now.cells.now) w.share job
-        out.items };
+    ghost gives = { λ w tile out. IsTileTops w.tiling.now
+        (ground_of w.blocks.now.cols w.blocks.now.rows w.blocks.now.cells.now) tile out.items };
 
-    fn run(&self, alloc: Global, job: u32) -> Result<Vec<Cell>, JobFault> {
-        let count = self.blocks.count();
-        let from = count.min(job as usize * self.share);
-        let to = count.min(from + self.share);
-        let tops = self.blocks.tops(alloc, from, to)?;
+    fn run(&self, alloc: Global, tile: u32) -> Result<Vec<Cell>, JobFault> {
+        let tops = entries(self.blocks, alloc, blocks_begun(self.tiling.bounds(tile)))?;
         Ok(tops)
     }
 }
 
-/// Returns the greatest heights of all blocks, in `jobs` jobs.
-fn shared_tops<R: Threads + Wait + Sync, G: Gate + Sync>(
+/// The greatest heights of near blocks, in one list for each tile.
+#[derive(Drop)]
+struct TileTops<'a> {
+    tiles: &'a TileBlocks<'a>,
+    lists: &'a [Vec<Cell>],
+    ghost count: { length lists.now ≡ tile_count tiles.now.tiling.now },
+    ghost listed: { AreResults (λ tile (list : Vec (Option ℤ) Global). IsTileTops tiles.now.tiling.now
+        (ground_of tiles.now.blocks.now.cols tiles.now.blocks.now.rows
+        tiles.now.blocks.now.cells.now) tile list.items)
+        (tile_count tiles.now.tiling.now) lists.now } by { Prim.hlevel props },
+}
+
+impl<'a> PlaceMap for TileTops<'a> {
+    ghost use Rattle.sight.specs.BlockTops.{ground_of, IsBlock, IsBlockTop};
+
+    type Entry = Cell;
+
+    ghost inside = { λ m. IsBlock 16 (ground_of m.tiles.now.blocks.now.cols
+        m.tiles.now.blocks.now.rows m.tiles.now.blocks.now.cells.now) };
+
+    ghost has = { λ m. IsBlockTop 16 (ground_of m.tiles.now.blocks.now.cols
+        m.tiles.now.blocks.now.rows m.tiles.now.blocks.now.cells.now) };
+
+    fn entry(&self, block: Place) -> Cell {
+        let first = Place {
+            row: block.row * NEAR_BLOCK,
+            col: block.col * NEAR_BLOCK,
+        };
+        let tile = self.tiles.tiling.tile_of(first);
+        let begun = blocks_begun(self.tiles.tiling.bounds(tile));
+        self.lists[tile as usize][begun.index_of(block)]
+    }
+}
+
+/// Returns the greatest heights of near blocks, found by one job for each tile.
+fn near_tops<R: Threads + Wait + Sync, G: Gate + Sync>(
     runner: &Runner<R, G>,
     blocks: &Blocks,
-    jobs: u32,
+    tiling: &Tiling,
 ) -> Result<Vec<Cell>, JobFault>
-    requires jobs { (1 ≤ jobs) × (jobs ≤ most_tiles) }
-    ensures tops { IfOk result (λ v.
-        AreTops blocks.now.size
+    requires near { blocks.now.size ≡ 16 }
+    requires cut { (tiling.now.cols ≡ blocks.now.cols) × (tiling.now.rows ≡ blocks.now.rows) }
+    ensures tops { IfOk result (λ v. AreTops 16
         (ground_of blocks.now.cols blocks.now.rows blocks.now.cells.now) v.items) }
     ensures workers { RefusesWorkers runner.now.workers result }
 {
-    let count = blocks.count();
-    let share = count.div_ceil(jobs as usize);
-    let lists = runner.run(&BlockShares { blocks, share }, jobs)?;
-    let mut tops = Vec::with_capacity(runner.alloc, count)?;
-    for list in &lists {
-        tops.extend_from_slice(list)?;
-    }
-    Ok(tops)
+    let tiles = TileBlocks { blocks, tiling };
+    let lists = runner.run(&tiles, tiling.tiles())?;
+    let tops = TileTops {
+        tiles: &tiles,
+        lists: &lists,
+    };
+    let near = entries(&tops, runner.alloc, blocks.bounds())?;
+    Ok(near)
 }
 
 /// Returns the greatest height of each near and far block, and of the grid.
-/// Near blocks are 16 by 16 cells, far blocks 128 by 128. `jobs` jobs find the heights of the near
-/// blocks. The grid's greatest height is its peak: `LOWEST` if no cell has data.
+/// Near blocks are 16 by 16 cells, far blocks 128 by 128. A tile's job finds the heights of the
+/// near blocks that begin in it. The grid's greatest height is its peak: `LOWEST` if no cell has
+/// data.
 pub(crate) fn tops_of<R: Threads + Wait + Sync, G: Gate + Sync>(
     runner: &Runner<R, G>,
     grid: &Grid,
-    jobs: u32,
+    tiling: &Tiling,
 ) -> Result<MaxHeights, JobFault>
-    requires jobs { (1 ≤ jobs) × (jobs ≤ most_tiles) }
+    requires given { Cuts tiling.now grid.now.terrain }
     ensures tops { IfOk result (λ t. IsTops grid.now.terrain t) }
     ensures workers { RefusesWorkers runner.now.workers result }
 {
@@ -173,7 +233,7 @@ pub(crate) fn tops_of<R: Threads + Wait + Sync, G: Gate + Sync>(
         rows,
         size: NEAR_BLOCK,
     };
-    let near = shared_tops(runner, &cells, jobs)?;
+    let near = near_tops(runner, &cells, tiling)?;
     let wide = blocks_in(NEAR_BLOCK, cols) as u32;
     let high = blocks_in(NEAR_BLOCK, rows) as u32;
     let near_blocks = Blocks {
@@ -182,7 +242,7 @@ pub(crate) fn tops_of<R: Threads + Wait + Sync, G: Gate + Sync>(
         rows: high,
         size: FAR_BLOCK / NEAR_BLOCK,
     };
-    let far = near_blocks.tops(runner.alloc, 0, near_blocks.count())?;
+    let far = near_blocks.tops(runner.alloc)?;
     let peak = top_of(&far).unwrap_or(LOWEST);
     Ok(MaxHeights { near, far, peak })
 }

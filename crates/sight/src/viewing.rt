@@ -67,7 +67,7 @@ pub fn viewshed<R: Threads + Wait + Sync, G: Gate + Sync>(
         workers,
         gate,
     };
-    let tops = tops_of(&runner, grid, tiling.tiles())?;
+    let tops = tops_of(&runner, grid, tiling)?;
     let input = ViewshedInput {
         grid,
         tops: &tops,
@@ -120,7 +120,7 @@ pub fn rise<R: Threads + Wait + Sync, G: Gate + Sync>(
         workers,
         gate,
     };
-    let tops = tops_of(&runner, grid, tiling.tiles())?;
+    let tops = tops_of(&runner, grid, tiling)?;
     let input = ViewshedInput {
         grid,
         tops: &tops,
