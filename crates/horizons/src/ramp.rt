@@ -13,12 +13,14 @@ type Product = i128;
 
 /// A straight line over the slope `s`: `(gain * s + intercept) / lines`.
 /// The slope is a target's direction seen from above: cells aside per row or column outward. The
-/// value is the ground's rise above the eye, in units per row or column outward.
+/// value is the ground's rise above the eye, in units per row or column outward. A caller may note
+/// in `clear_to` up to which row or column outward no ground is above the ramp; 0 notes nothing.
 #[derive(Clone, Copy, PartialEq)]
 pub struct Ramp {
     pub gain: Value,
     pub intercept: Value,
     pub lines: u32,
+    pub clear_to: u32,
 }
 
 impl Ramp {
@@ -28,11 +30,26 @@ impl Ramp {
         ensures below { (t : Target) (rise : ℤ) → IsTarget t → unsigned_abs rise ≤ 2 ^ 51 →
             ramp_hides result t rise ≡ false }
         ensures at { (t : Target) → IsTarget t → IsRampAt result t }
+        ensures clear { result.clear_to ≡ 0 }
     {
         Ramp {
             gain: 0,
             intercept: -(1 << 51),
             lines: 1,
+            clear_to: 0,
+        }
+    }
+
+    /// Returns the ramp with another `clear_to`.
+    #[inline(always)]
+    pub fn cleared_to(self, line: u32) -> Self
+        ensures { result ≡ record self { clear_to = line } }
+    {
+        Ramp {
+            gain: self.gain,
+            intercept: self.intercept,
+            lines: self.lines,
+            clear_to: line,
         }
     }
 

@@ -20,7 +20,7 @@ use Rattle.sight.proofs.Laid.{grows}
 use Rattle.sight.proofs.Rays.{low_onward, next_inside}
 use Rattle.sight.proofs.Spans.{floor_low, floor_high, near_index, none_outside, nothing_near, nothing_far, past, ramp_between, shows_centre, shows_ramp, at_cell_past}
 
-smaller : (a b : ℤ) (n : ℕ) → (a *ℤ pos n) <ℤ ((b +ℤ pos 1) *ℤ pos n) → a ≤ℤ b
+pub smaller : (a b : ℤ) (n : ℕ) → (a *ℤ pos n) <ℤ ((b +ℤ pos 1) *ℤ pos n) → a ≤ℤ b
 smaller a b n less = by_lt_z b a (λ past. absurd
     (omega (arith, ints, less, grows (b +ℤ pos 1) a n (omega (arith, ints, past))))) (λ is. is)
 

@@ -1,7 +1,7 @@
 -- For targets beyond a line, the pieces that the code pushes make the old horizon, raised to the
 -- line's ground. A piece is one ramp for successive targets; a line is a column or row on one side
 -- of the observer. A ray leads from the observer to a target, seen from above.
-use Rattle.std.proofs.Common.{arith, refl, ap, negsuc, ◌∙◌, ◌≡◌, ℕ, ◌+◌, ◌-◌, ◌*◌, ◌<◌, ◌≤◌, ℤ, pos, ◌+ℤ◌, ◌-ℤ◌, ◌*ℤ◌, ◌≤ℤ◌, ◌<ℤ◌, subst, true, List, [], Option, Some, inl, inr}
+use Rattle.std.proofs.Common.{arith, refl, ap, negsuc, ◌∙◌, ◌≡◌, ℕ, ◌+◌, ◌-◌, ◌*◌, ◌<◌, ◌≤◌, ℤ, pos, ◌+ℤ◌, ◌-ℤ◌, ◌*ℤ◌, ◌≤ℤ◌, ◌<ℤ◌, subst, true, false, if◌then◌else◌, List, [], Option, Some, inl, inr}
 use Rattle.std.specs.Prelude.{slice_get}
 use Rattle.std.proofs.lemmas.Bool.{cases_lt}
 use Rattle.std.proofs.lemmas.Int.{ints}
@@ -9,11 +9,11 @@ use Rattle.std.proofs.lemmas.Nat.{mul-le}
 use Rattle.horizons.specs.declared.target.Target.{Target}
 use Rattle.horizons.specs.declared.ramp.Ramp.{Ramp}
 use Rattle.horizons.specs.declared.horizon.Piece.{Piece}
-use Rattle.horizons.specs.Horizons.{AreTargets, IsTarget, IsSlopeUpTo, IsPushed, IsOver, IsRampAt, target_count, ramp_at, ramp_hides}
+use Rattle.horizons.specs.Horizons.{AreTargets, IsTarget, IsSlopeUpTo, IsPushed, IsOver, IsRampAt, target_count, ramp_at, ramp_hides, is_ramp_above}
 use Rattle.horizons.specs.Merging.{IsGreaterPushed, greater_at}
 use Rattle.horizons.proofs.Hiding.{greater_hides, greater_is_ramp, either_hides}
 use Rattle.horizons.proofs.Straight.{slope_up}
-use Rattle.sight.specs.Sweep.{PassesBefore, AreBefore, Passes, PassesAmong, IsShadow, IsHiddenOn, Raises, RaisesBelow, IsFamily, IsAtCell, line_blocks}
+use Rattle.sight.specs.Sweep.{PassesBefore, AreBefore, Passes, PassesAmong, IsShadow, IsHiddenOn, IsClear, AreClear, Raises, RaisesBelow, cleared_to, IsFamily, IsAtCell, line_blocks}
 use Rattle.sight.specs.declared.family.Family.{Family}
 use Rattle.sight.specs.declared.family.Span.{Span}
 use Rattle.sight.proofs.Products.{rest_times}
@@ -97,9 +97,15 @@ shown_over cells f targets k from end span u are at_u shows over i t low high at
 -- the greater of the ground's ramp and the old horizon's ramp at target i raises the horizon there
 raised_to : (cells : List (Option ℤ)) (f : Family) (k i : ℕ) (highest : List Piece)
     (ground ramp : Ramp) (t : Target) → ramp_at highest i ≡ Some ramp → IsRampAt ramp t →
-    IsShadow cells f k t ground → Raises cells f k highest i t (greater_at ground ramp t)
-raised_to cells f k i highest ground ramp t is is_ramp shows = record {
+    IsClear cells f k t ramp → ground.clear_to ≡ 0
+    → IsShadow cells f k t ground → Raises cells f k highest i t (greater_at ground ramp t)
+raised_to cells f k i highest ground ramp t is is_ramp clear fresh shows = record {
   at = greater_is_ramp ramp ground t is_ramp shows.at;
+  clear = elim (is_ramp_above ground ramp t) as (λ b. IsClear cells f (k + 1) t
+      (if b then ground else ramp)) [
+        | true ↦ λ j y rise past below. absurd (omega arith)
+        | false ↦ λ j y rise past. clear j y rise (omega arith)
+      ];
   hides = λ y rise stands later small. greater_hides ramp ground t rise is_ramp shows.at
       ∙ (rw (is, shows.hides y rise stands later small) refl);
 }
@@ -107,13 +113,14 @@ raised_to cells f k i highest ground ramp t is is_ramp shows = record {
 pub greater_raised : (cells : List (Option ℤ)) (f : Family) (targets : List Target) (k from end : ℕ)
     (highest : List Piece) (ground ramp : Ramp) (old new : List Piece) → target_count old ≡ from →
     from < end
-    → IsOver targets highest → ((i : ℕ) → from ≤ i → i < end → ramp_at highest i ≡ Some ramp) →
+    → IsOver targets highest → AreClear cells f targets k highest →
+    ((i : ℕ) → from ≤ i → i < end → ramp_at highest i ≡ Some ramp) → ground.clear_to ≡ 0 →
     IsGreaterPushed targets ground ramp old end new
     → RaisesBelow cells f targets k highest from old → ((i : ℕ) (t : Target) → from ≤ i → i < end →
     slice_get targets i ≡ Some t → IsShadow cells f k t ground)
     → (target_count new ≡ end) × RaisesBelow cells f targets k highest end new
-greater_raised cells f targets k from end highest ground ramp old new reach more over is pushed
-    raised shows = (
+greater_raised cells f targets k from end highest ground ramp old new reach more over clear is fresh
+    pushed raised shows = (
       pushed.reach,
       λ i t below at. elim (cases_lt i from) [
         | inl before ↦ let was = raised i t before at in
@@ -123,21 +130,23 @@ greater_raised cells f targets k from end highest ground ramp old new reach more
               greater_at ground ramp t,
               pushed.added i t (omega arith) below at,
               raised_to cells f k i highest ground ramp t here (over.each i t ramp at here)
-                  (shows i t after below at),
+                  (clear i t ramp at here) fresh (shows i t after below at),
             )
       ],
     )
 
--- if a ramp of the old horizon hides all that line k blocks, the raised horizon may keep this ramp
+-- if a ramp of the old horizon hides all that the lines from k to below n block, the raised horizon
+-- may keep this ramp, and note n
 pub hidden_raised : (cells : List (Option ℤ)) (f : Family) (targets : List Target)
-    (k i from end : ℕ) (highest : List Piece) (ramp : Ramp) (t : Target) → IsOver targets highest →
-    ramp_at highest i ≡ Some ramp
-    → IsHiddenOn cells f targets k ramp from end → from ≤ i → i < end →
-    slice_get targets i ≡ Some t → Raises cells f k highest i t ramp
-hidden_raised cells f targets k i from end highest ramp t over is hidden low high at = record {
-  at = over.each i t ramp at is;
+    (k n i from end : ℕ) (highest : List Piece) (ramp : Ramp) (t : Target) → IsOver targets highest →
+    ramp_at highest i ≡ Some ramp → k < n
+    → ((j : ℕ) → k ≤ j → j < n → IsHiddenOn cells f targets j ramp from end) → from ≤ i → i < end →
+    slice_get targets i ≡ Some t → Raises cells f k highest i t (cleared_to ramp n)
+hidden_raised cells f targets k n i from end highest ramp t over is some hidden low high at = record {
+  at = record { lines = (over.each i t ramp at is).lines; value = (over.each i t ramp at is).value };
+  clear = λ j y rise past below. hidden j (omega arith) below i t low high at y rise;
   hides = λ y rise stands later small. either_hides (ramp_hides ramp t rise) (line_blocks cells f
-      t.line y rise k) (hidden i t low high at y rise stands later) ∙ (rw is refl);
+      t.line y rise k) (hidden k (omega arith) some i t low high at y rise stands later) ∙ (rw is refl);
 }
 
 -- a ray from cell `at` to cell y, both at least `first`, crosses each line at `first` or beyond
@@ -200,8 +209,9 @@ pub low_raised : (cells : List (Option ℤ)) (f : Family) (targets : List Target
     (highest : List Piece) (ramp : Ramp) (old new : List Piece) → old ≡ [] → IsFamily f →
     AreTargets targets → IsPushed old end ramp new
     → AreBefore targets k (pos f.side.first -ℤ pos f.side.at) end → ((t : Target) → IsTarget t →
-    IsRampAt ramp t) → (target_count new ≡ end) × RaisesBelow cells f targets k highest end new
-low_raised cells f targets k end highest ramp old new e is are pushed before at =
+    IsRampAt ramp t) → ramp.clear_to ≡ 0
+    → (target_count new ≡ end) × RaisesBelow cells f targets k highest end new
+low_raised cells f targets k end highest ramp old new e is are pushed before at fresh =
     let none = none_raised cells f targets k highest old e in (
       omega (arith, pushed.reach, none.0),
       λ i t below at_t. (
@@ -209,6 +219,7 @@ low_raised cells f targets k end highest ramp old new e is are pushed before at 
         pushed.added i (omega (arith, none.0)) below,
         record {
           at = at t (are.each i t at_t);
+          clear = λ j y rise past below. absurd (omega arith);
           hides = λ y rise stands later _.
               absurd (passed_low f k y t is stands later (before i t below at_t));
         },
@@ -221,14 +232,15 @@ pub high_raised : (cells : List (Option ℤ)) (f : Family) (targets : List Targe
     (highest : List Piece) (offset : ℤ) (u : Target) (ramp : Ramp) (old new : List Piece) → 0 < k →
     IsFamily f → AreTargets targets → slice_get targets from ≡ Some u
     → Passes k offset u → (pos f.side.cells -ℤ pos f.side.at) ≤ℤ offset → target_count old ≡ from →
-    from < end → ((t : Target) → IsTarget t → IsRampAt ramp t)
+    from < end → ((t : Target) → IsTarget t → IsRampAt ramp t) → ramp.clear_to ≡ 0
     → RaisesBelow cells f targets k highest from old → IsPushed old end ramp new →
     (target_count new ≡ end) × RaisesBelow cells f targets k highest end new
 high_raised cells f targets k from end highest offset u ramp old new some is are at_u passes past
-    reach more at raised pushed =
+    reach more at fresh raised pushed =
     more_raised cells f targets k from end highest ramp old new reach more pushed raised
     (λ i t low high at_t. record {
       at = at t (are.each i t at_t);
+      clear = λ j y rise past below. absurd (omega arith);
       hides = λ y rise stands later _.
           let last = pos f.side.cells -ℤ pos f.side.at in
           let here : (last *ℤ pos u.line) ≤ℤ (u.offset *ℤ pos k) =

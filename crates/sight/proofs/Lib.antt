@@ -8,6 +8,7 @@ pub mod Rays
 pub mod Spans
 pub mod Laid
 pub mod Below
+pub mod ClearLines
 -- the horizon of all lines passed so far
 pub mod Passed
 -- rays in the order of their slopes, and of their lines

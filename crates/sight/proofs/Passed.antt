@@ -9,7 +9,7 @@ use Rattle.horizons.specs.declared.target.Target.{Target}
 use Rattle.horizons.specs.declared.ramp.Ramp.{Ramp}
 use Rattle.horizons.specs.declared.horizon.Piece.{Piece}
 use Rattle.horizons.specs.Horizons.{IsTarget, AreTargets, IsPushed, IsOver, IsRampAt, target_count, ramp_at, ramp_hides}
-use Rattle.sight.specs.Sweep.{RaisesBelow, HidesBefore, line_blocks, is_blocked_before}
+use Rattle.sight.specs.Sweep.{IsClear, RaisesBelow, HidesBefore, line_blocks, is_blocked_before}
 use Rattle.sight.specs.declared.family.Family.{Family}
 
 or_none : (b : Bool) → (b || false) ≡ b
@@ -47,6 +47,10 @@ pub hides_next : (cells : List (Option ℤ)) (f : Family) (targets : List Target
     HidesBefore cells f targets (k + 1) new
 hides_next cells f targets k old new some before whole raises = record {
   over = is_over cells f targets k old new whole raises;
+  clear = λ i t r at ramp.
+      let raised = raises i t (slice_get_within targets i t at) at in
+      subst (λ s. IsClear cells f (k + 1) t s) (same_Some raised.0 r (sym raised.1 ∙ ramp))
+      raised.2.clear;
   hides = λ i t y rise at stands later is.
       let raised = raises i t (slice_get_within targets i t at) at in
       let here = raised.2.hides y rise stands (omega arith) is in
@@ -65,9 +69,9 @@ pub none_hides : (targets : List Target) (ramp : Ramp) (h : List Piece) → AreT
     IsPushed [] (length targets) ramp h
     → ((t : Target) (rise : ℤ) → IsTarget t → unsigned_abs rise ≤ 2 ^ 51 →
     ramp_hides ramp t rise ≡ false) → ((t : Target) → IsTarget t → IsRampAt ramp t)
-    → (cells : List (Option ℤ)) (f : Family) → HidesBefore cells f targets 1 h
+    → ramp.clear_to ≡ 0 → (cells : List (Option ℤ)) (f : Family) → HidesBefore cells f targets 1 h
 unfolding target_count
-none_hides targets ramp h are pushed below is cells f =
+none_hides targets ramp h are pushed below is fresh cells f =
     let at : (i : ℕ) (t : Target) → slice_get targets i ≡ Some t → ramp_at h i ≡ Some ramp =
     λ i t at. pushed.added i (omega arith) (slice_get_within targets i t at) in
     record {
@@ -77,6 +81,9 @@ none_hides targets ramp h are pushed below is cells f =
             let P : Ramp → Type 0 = λ s. IsRampAt s t in
             subst P (same_Some ramp r (sym (at i t at_t) ∙ here)) (is t (are.each i t at_t));
       };
+      clear = λ i t r at_t here.
+          subst (λ s. IsClear cells f 1 t s) (same_Some ramp r (sym (at i t at_t) ∙ here))
+          (λ j y rise past below. absurd (omega arith));
       hides = λ i t y rise at_t stands later is_rise.
           rw (at i t at_t) (below t rise (are.each i t at_t) is_rise);
     }

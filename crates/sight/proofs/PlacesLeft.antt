@@ -10,21 +10,9 @@ use Rattle.tiles.specs.Cutting.{index_in}
 use Rattle.sightlines.specs.Sight.{column_blocks, row_blocks}
 use Rattle.sightlines.specs.Walk.{columns_of, rows_of, walk_blocks}
 use Rattle.sight.specs.Flags.{flag_at, AreLeft}
-use Rattle.sight.specs.Sides.{sightline_to, AreOpen, family_of, extent_of}
-use Rattle.sight.specs.declared.sides.TileAxis.{TileAxis}
+use Rattle.sight.specs.Sides.{columns_at, rows_at, sightline_to, AreOpen, family_of, extent_of}
 use Rattle.sightlines.specs.declared.walk.Sightline.{Sightline}
 use Rattle.sightlines.proofs.Crossings.{height_is, column_blocks-walk, row_blocks-walk}
-
-abbrev pub columns_at : Bounds → Place → TileAxis
-columns_at b p =
-    record { at = p.col; stride = 1; tile = record { first = b.left; cells = b.cols; stride = 1 } }
-
-abbrev pub rows_at : Terrain → Bounds → Place → TileAxis
-rows_at t b p = record {
-  at = p.row;
-  stride = t.cols;
-  tile = record { first = b.top; cells = b.rows; stride = b.cols };
-}
 
 pub column_flags : (b : Bounds) (x y n : ℕ) → n ≡ b.rows * b.cols → x < b.cols → y < b.rows →
     x * 1 + y * b.cols < n

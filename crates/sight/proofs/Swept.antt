@@ -15,8 +15,8 @@ use Rattle.sightlines.proofs.Higher.{columns_clear, hidden_lower}
 use Rattle.sight.specs.Flags.{flag_at}
 use Rattle.sight.specs.Lowered.{limit_of, lowered_to, IsLowered}
 use Rattle.sight.specs.Raising.{AreClear, IsCandidate, IsRaised}
-use Rattle.sight.specs.Sides.{sightline_to, family_of, extent_of}
-use Rattle.sight.proofs.PlacesLeft.{columns_at, rows_at, column_walk_is, row_walk_is}
+use Rattle.sight.specs.Sides.{columns_at, rows_at, sightline_to, family_of, extent_of}
+use Rattle.sight.proofs.PlacesLeft.{column_walk_is, row_walk_is}
 use Rattle.sight.proofs.Raised.{raised_same}
 
 module _ (t : Terrain) (p : Place) (b : Bounds) (e : ℤ) (flags : List Bool) (old new : List ℕ)

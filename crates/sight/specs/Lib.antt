@@ -7,6 +7,7 @@ pub mod Ranks
 pub mod Hiding
 pub mod Sides
 pub mod Raising
+pub mod LineBlocks
 pub mod Looking
 pub mod Refusals
 pub mod Viewed

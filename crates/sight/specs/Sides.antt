@@ -2,6 +2,12 @@
 -- exactly if a crossing with the lines (all columns, or all rows) blocks its line of sight.
 -- Private.
 use Rattle.std.specs.Prelude.{◌≡◌, ℕ, ◌+◌, ◌*◌, ◌<◌, ◌≤◌, Bool, false, not, ◌&&◌, ℤ, pos, ◌+ℤ◌, List, length, Option, None, unwrap_or, slice_index_or, min, max}
+use Rattle.terrain.specs.Raster.{Terrain}
+use Rattle.terrain.specs.Neighbours.{height_of}
+use Rattle.terrain.specs.declared.place.Place.{Place}
+use Rattle.terrain.specs.declared.observer.Observer.{Observer}
+use Rattle.tiles.specs.declared.bounds.Bounds.{Bounds}
+use Rattle.sightlines.specs.Sight.{place_of}
 use Rattle.sight.specs.Hiding.{IsInRun, flag_in_extent}
 use Rattle.sight.specs.Sweep.{side_axis}
 use Rattle.sightlines.specs.Walk.{walk_blocks}
@@ -16,6 +22,18 @@ pub record IsTileAxis (c : TileAxis) : Type 0 where
   pub tile : c.tile.first + c.tile.cells ≤ 4096
   pub strides : (c.stride ≤ 4096) × (c.tile.stride ≤ 4096)
 
+-- The columns, with the observer's and those of a tile; so the rows of a terrain.
+abbrev pub columns_at : Bounds → Place → TileAxis
+columns_at b p =
+    record { at = p.col; stride = 1; tile = record { first = b.left; cells = b.cols; stride = 1 } }
+
+abbrev pub rows_at : Terrain → Bounds → Place → TileAxis
+rows_at t b p = record {
+  at = p.row;
+  stride = t.cols;
+  tile = record { first = b.top; cells = b.rows; stride = b.cols };
+}
+
 -- The family whose lines are counted along the axis `lines`, away from coordinate 0, and run along
 -- the axis `side`.
 abbrev pub family_of : TileAxis → TileAxis → ℤ → Family
@@ -29,6 +47,10 @@ family_of lines side eye = record {
   };
   eye = eye;
 }
+
+-- The elevation of an observer's eye; the ground of a NODATA cell counts as 0.
+abbrev pub eye_of : Terrain → Observer → ℤ
+eye_of t o = height_of t (place_of o) +ℤ pos o.eye
 
 -- The tile as an extent: the tile's run across the lines, and its run along the lines.
 abbrev pub extent_of : TileAxis → TileAxis → Extent

@@ -90,11 +90,21 @@ pub record IsAtCell (f : Family) (y : ℕ) (t : Target) : Type 0 where
 abbrev pub ramp_of : Family → ℕ → ℤ → ℤ → ℤ → Ramp
 ramp_of f k offset near far =
     let step = far -ℤ near in
-    record { gain = step *ℤ pos k; intercept = (near -ℤ f.eye) -ℤ (step *ℤ offset); lines = k }
+    record {
+      gain = step *ℤ pos k;
+      intercept = (near -ℤ f.eye) -ℤ (step *ℤ offset);
+      lines = k;
+      clear_to = 0;
+    }
 
 -- The ramp of ground of one height along line k.
 abbrev pub constant_ramp : Family → ℕ → ℤ → Ramp
-constant_ramp f k height = record { gain = pos 0; intercept = height -ℤ f.eye; lines = k }
+constant_ramp f k height =
+    record { gain = pos 0; intercept = height -ℤ f.eye; lines = k; clear_to = 0 }
+
+-- The ramp with n noted as its `clear_to`.
+abbrev pub cleared_to : Ramp → ℕ → Ramp
+cleared_to r n = record r { clear_to = n }
 
 -- The rise of a target above the eye is within its limit.
 abbrev pub IsRise : ℤ → Type 0
@@ -115,11 +125,23 @@ IsHiddenOn cells f targets k r from end =
     → (y : ℕ) (rise : ℤ) → IsAtCell f y t → k < t.line →
     line_blocks cells f t.line y rise k ≡ true → ramp_hides r t rise ≡ true
 
--- The ramp is within bounds at target t, of index i. If t is beyond line k, then at each rise
--- within the limit the ramp hides t exactly if the old horizon does or line k blocks t.
+-- If a line from k to below the ramp's `clear_to` blocks target t, the ramp hides t.
+abbrev pub IsClear : List (Option ℤ) → Family → ℕ → Target → Ramp → Type 0
+IsClear cells f k t r = (j y : ℕ) (rise : ℤ) → k ≤ j → j < r.clear_to → IsAtCell f y t → j < t.line
+    → line_blocks cells f t.line y rise j ≡ true → ramp_hides r t rise ≡ true
+
+-- `IsClear` holds of each target and its ramp.
+abbrev pub AreClear : List (Option ℤ) → Family → List Target → ℕ → List Piece → Type 0
+AreClear cells f targets k h = (i : ℕ) (t : Target) (r : Ramp) → slice_get targets i ≡ Some t →
+    ramp_at h i ≡ Some r → IsClear cells f k t r
+
+-- The ramp is within bounds at target t, of index i, and clear beyond line k (`IsClear`). If t is
+-- beyond line k, then at each rise within the limit the ramp hides t exactly if the old horizon does
+-- or line k blocks t.
 pub record Raises (cells : List (Option ℤ)) (f : Family) (k : ℕ) (old : List Piece) (i : ℕ)
     (t : Target) (r : Ramp) : Type 0 where
   pub at : IsRampAt r t
+  pub clear : IsClear cells f (k + 1) t r
   pub hides : (y : ℕ) (rise : ℤ) → IsAtCell f y t → k < t.line → IsRise rise →
       ramp_hides r t rise ≡ (hides old i t rise || line_blocks cells f t.line y rise k)
 
@@ -131,12 +153,13 @@ RaisesBelow cells f targets k old end new =
     (i : ℕ) (t : Target) → i < end → slice_get targets i ≡ Some t
     → (r : Ramp) × (ramp_at new i ≡ Some r) × Raises cells f k old i t r
 
--- The horizon covers the targets, with a ramp within bounds at each (`IsOver`). Take a target on
--- line k or beyond, at a rise within the limit. The horizon hides the target exactly if a line
--- before line k blocks it.
+-- The horizon covers the targets, with a ramp within bounds at each (`IsOver`), clear from line k on
+-- (`AreClear`). Take a target on line k or beyond, at a rise within the limit. The horizon hides the
+-- target exactly if a line before line k blocks it.
 pub record HidesBefore (cells : List (Option ℤ)) (f : Family) (targets : List Target) (k : ℕ)
     (h : List Piece) : Type 0 where
   pub over : IsOver targets h
+  pub clear : AreClear cells f targets k h
   pub hides : (i : ℕ) (t : Target) (y : ℕ) (rise : ℤ) → slice_get targets i ≡ Some t →
       IsAtCell f y t → k ≤ t.line → IsRise rise
       → hides h i t rise ≡ is_blocked_before cells f t.line y rise k

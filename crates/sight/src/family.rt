@@ -13,7 +13,7 @@ ghost use Rattle.sightlines.specs.Blocks.{IsTopOf};
 ghost use Rattle.sight.specs.Hiding.{line_height};
 ghost use Rattle.sight.specs.Sweep.{lead_of, offset_of, ramp_of, constant_ramp, IsFamily, IsLine, IsCell, Passes, PassesAmong, IsShadow};
 
-use crate::heights::{greater_height, height_at};
+use crate::heights::{height_at, top_along};
 use horizons::{Ramp, Target};
 use terrain::{Cell, Height};
 
@@ -85,12 +85,14 @@ fn is_at_centre(target: Target, line: u32, offset: i32) -> bool
 /// One ramp for all of them keeps the horizon short.
 #[inline(always)]
 pub(crate) fn passed_ramp() -> Ramp
-    ensures { (t : Target) → IsTarget t → IsRampAt result t }
+    ensures at { (t : Target) → IsTarget t → IsRampAt result t }
+    ensures clear { result.clear_to ≡ 0 }
 {
     Ramp {
         gain: 0,
         intercept: 1 << 51,
         lines: 1,
+        clear_to: 0,
     }
 }
 
@@ -136,6 +138,7 @@ impl Family {
         requires offset { unsigned_abs offset ≤ 4096 }
         requires heights { IsHeight near × IsHeight far }
         ensures ramp { result ≡ ramp_of self line offset near far }
+        ensures clear { result.clear_to ≡ 0 }
         ensures at { (t : Target) → IsTarget t → Passes line offset t → IsRampAt result t }
     {
         let step = far - near;
@@ -143,6 +146,7 @@ impl Family {
             gain: step * line as i64,
             intercept: near - self.eye - step * offset as i64,
             lines: line,
+            clear_to: 0,
         }
     }
 
@@ -177,7 +181,23 @@ impl Family {
             gain: 0,
             intercept: height - self.eye,
             lines: line,
+            clear_to: 0,
         }
+    }
+
+    /// Returns the first cell of the side at offset `low` to `high + 1`, and the cell after the last.
+    #[inline(always)]
+    pub(crate) fn cells_between(self, low: i32, high: i32) -> (u32, u32)
+        requires family { IsFamily self }
+        requires low { unsigned_abs low ≤ 2 ^ 25 }
+        requires high { unsigned_abs high ≤ 2 ^ 25 }
+        ensures between { (c : ℕ) → c < self.side.cells → low ≤ℤ offset_of self c →
+            offset_of self c ≤ℤ (high +ℤ pos 1) → (result.0 ≤ c) × (c < result.1) }
+        ensures end { result.1 ≤ 4096 }
+    {
+        let first = (self.side.at as i32 + low).max(0) as u32;
+        let past = (self.side.at as i32 + high + 2).max(0) as u32;
+        (first, past.min(self.side.cells))
     }
 
     /// Returns the greatest height of a line's cells from offset `low` to `high + 1`.
@@ -200,17 +220,9 @@ impl Family {
             → line_height cells.now self line c ≡ Some h → IsTopOf result h }
         ensures height { (h : ℤ) → result ≡ Some h → IsHeight h }
     {
-        let first = (self.side.at as i32 + low).max(0) as u32;
-        let past = (self.side.at as i32 + high + 2).max(0) as u32;
+        let (first, past) = self.cells_between(low, high);
         let start = self.lead_of(line) as usize * self.lines.stride;
-        let mut top = None;
-        for cell in first..past.min(self.side.cells) {
-            top = greater_height(
-                top,
-                height_at(cells, start + cell as usize * self.side.stride),
-            );
-        }
-        top
+        top_along(cells, start, self.side.stride, first, past)
     }
 
     /// Whether a line's ground from the cell at `offset` to the next has ramp `ramp`.
@@ -270,6 +282,7 @@ impl Family {
         ensures shows { (t : Target) → IsTarget t → IsSlopeUpTo target t →
             PassesAmong line result.offset result.last t
             → (result.alone ≡ true → t ≡ target) → IsShadow cells.now self line t result.ramp }
+        ensures clear { result.ramp.clear_to ≡ 0 }
     {
         let offset = offset_at(target, line);
         let nothing = Span {

@@ -5,7 +5,7 @@
 //! all ground; walks are long on open ground.
 ghost use Rattle.std.specs.Prelude.{◌≡◌, ◌+◌, ◌-◌, ◌*◌, ◌<◌, ◌≤◌, length, OnOk};
 ghost use Rattle.terrain.specs.Neighbours.{IsInside};
-ghost use Rattle.tiles.specs.Cutting.{AreBounds, IsCutting};
+ghost use Rattle.tiles.specs.Cutting.{AreBounds, IsCutting, IsInBounds, IsWithinLimits};
 ghost use Rattle.sightlines.specs.Sight.{highest_eye, place_of};
 ghost use Rattle.sight.specs.Flags.{AreFlagsBelow, AreFlags, FlagsSeen, IsFlagOf};
 
@@ -16,7 +16,7 @@ use terrain::{Observer, Place};
 use tiles::Bounds;
 
 /// The number of sampled walks that decide between walks and a sweep.
-const SAMPLES: u32 = 64;
+pub(crate) const SAMPLES: u32 = 64;
 
 /// The default side of a tile, in cells.
 const USUAL_SIDE: u32 = 256;
@@ -32,6 +32,20 @@ const SWEPT_SIDE: u32 = 64;
 pub enum Check {
     Whole,
     FirstCrossings,
+}
+
+/// Returns a place of a sample of a tile's places.
+/// Strides of 37 rows and 61 columns, both prime, scatter the sample in a tile of most sizes.
+pub(crate) fn sample_at(bounds: Bounds, step: u32) -> Place
+    requires step { step < 64 }
+    requires some { (1 ≤ bounds.rows) × (1 ≤ bounds.cols) }
+    requires inside { IsWithinLimits bounds }
+    ensures { IsInBounds bounds result }
+{
+    Place {
+        row: bounds.top + step * 37 % bounds.rows,
+        col: bounds.left + step * 61 % bounds.cols,
+    }
 }
 
 impl<'a> ViewshedInput<'a> {
@@ -69,12 +83,8 @@ impl<'a> ViewshedInput<'a> {
         requires eye { observer.now.eye ≤ highest_eye }
     {
         let mut walked = WalkCache::none();
-        // strides of 37 rows and 61 columns, both prime, scatter the sample in a tile of most sizes
         for step in 0..SAMPLES {
-            let place = Place {
-                row: bounds.top + step * 37 % bounds.rows,
-                col: bounds.left + step * 61 % bounds.cols,
-            };
+            let place = sample_at(bounds, step);
             self.flag_of(Check::Whole, observer, place, &mut walked);
         }
         let side = bounds.rows.min(bounds.cols).max(SWEPT_SIDE);

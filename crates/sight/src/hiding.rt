@@ -4,10 +4,12 @@ ghost use Rattle.std.specs.Prelude.{◌≡◌, ℕ, ◌≤◌, false, OnOk, slic
 ghost use Rattle.sightlines.specs.Sight.{highest_eye};
 ghost use Rattle.sightlines.specs.Walk.{AreHeights};
 ghost use Rattle.sight.specs.Sweep.{IsFamily, IsAtCell, lead_of};
+ghost use Rattle.sight.specs.LineBlocks.{AreLineTops};
 ghost use Rattle.sight.specs.Hiding.{flag_index, AreHidden, IsApart, IsRay, IsExtent};
 
 use crate::extent::Extent;
 use crate::family::Family;
+use crate::line_blocks::LineBlocks;
 use crate::looking::SweepLookup;
 use crate::ranks::rank;
 use horizons::Target;
@@ -48,12 +50,15 @@ impl Family {
 pub(crate) fn hide(
     alloc: Global,
     cells: &[Cell],
+    tops: &[Cell],
+    blocks: LineBlocks,
     family: Family,
     extent: Extent,
     height: u32,
     flags: &mut [bool],
 ) -> Result<(), AllocError>
     requires heights { AreHeights cells.now }
+    requires tops { AreLineTops cells.now family tops.now blocks }
     requires family { IsFamily family }
     requires extent { IsExtent family extent flags.old }
     requires apart { IsApart extent }
@@ -64,7 +69,7 @@ pub(crate) fn hide(
     let ranked = rank(alloc, &rays)?;
     let mut lookup = SweepLookup::new(alloc, &ranked.targets)?;
     for (number, ray) in rays.iter().enumerate() {
-        lookup.go_to(cells, family, ray.line, &ranked.targets)?;
+        lookup.go_to(cells, tops, blocks, family, ray.line, &ranked.targets)?;
         let rise = family.rise(cells, *ray, height);
         if lookup.hides(ranked.ranks[number] as usize, *ray, rise) {
             family.clear_flag(extent, *ray, flags);

@@ -20,12 +20,13 @@
 //! - `looking`: looks up which targets on a line are hidden by nearer lines
 //! - `sweep`: a horizon, raised line by line
 //! - `line_ground`: raises a horizon to the ground of one line
+//! - `line_blocks`: finds lines without ground above a piece, by greatest heights of blocks
 //! - `gathering`: collects the rays of flagged cells, line by line
 //! - `ranks`: sorts rays by slope
 //! - `rising`: how far a target rises above the eye
 //! - `family`: the lines on one side of the observer, and the ground that rays meet there
 //! - `extent`: parts of the grid whose cells have flags
-//! - `heights`: heights of cells in a list
+//! - `heights`: heights of cells in a list, and the greatest of them
 //! - `by_place`: builds lists with one entry for each place of a tile
 //! - `laws`: theorems about viewsheds and rises
 #![tactic(auto)]
@@ -40,6 +41,7 @@ mod heights;
 mod hiding;
 mod judging;
 pub mod laws;
+mod line_blocks;
 mod line_ground;
 mod looking;
 mod raising;

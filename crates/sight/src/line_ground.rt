@@ -2,15 +2,17 @@
 //!
 //! A horizon has a ramp for each target; a piece of it is one ramp for successive targets. A piece
 //! is kept whole if a quick test finds no ground of the line above the piece.
-ghost use Rattle.std.specs.Prelude.{◌≡◌, ℕ, ◌+◌, ◌^◌, ◌<◌, ◌≤◌, IsTrue, true, ◌↔◌, pos, ◌-ℤ◌, ◌≤ℤ◌, length, Some, OnOk, slice_get, unsigned_abs};
+ghost use Rattle.std.specs.Prelude.{◌≡◌, ℕ, ◌+◌, ◌^◌, ◌<◌, ◌≤◌, IsTrue, true, ◌↔◌, pos, ◌-ℤ◌, ◌≤ℤ◌, length, Some, IfSome, OnOk, slice_get, unsigned_abs};
 ghost use Rattle.std.specs.Bool.{OnTrue};
 ghost use Rattle.horizons.specs.declared.target.Target.{Target};
 ghost use Rattle.horizons.specs.Horizons.{IsTarget, AreTargets, IsOver, target_count, ramp_at};
 ghost use Rattle.horizons.specs.Merging.{IsRampOn};
 ghost use Rattle.sightlines.specs.Walk.{AreHeights};
-ghost use Rattle.sight.specs.Sweep.{PassesBefore, AreBefore, IsFamily, IsLine, Passes, PassesAmong, IsHiddenOn, RaisesBelow};
+ghost use Rattle.sight.specs.Sweep.{PassesBefore, AreBefore, IsFamily, IsLine, Passes, PassesAmong, IsClear, AreClear, IsHiddenOn, RaisesBelow};
+ghost use Rattle.sight.specs.LineBlocks.{AreLineTops};
 
 use crate::family::{Family, Span, offset_at, passed_ramp};
+use crate::line_blocks::{LineBlocks, clear_end};
 use horizons::{Cursor, Horizon, Piece, Ramp, Target, is_never_above, push_greater};
 use std::alloc::AllocError;
 use terrain::Cell;
@@ -115,7 +117,7 @@ fn count_before_side(family: Family, line: u32, targets: &[Target]) -> usize
 }
 
 /// Whether a piece's ramp may be ground of the line just before `line`.
-/// The ground of `line` mostly rises above such a piece, so `raise` leaves out the quick test.
+/// The ground of `line` mostly rises above such a piece, so `end_of_clear` leaves out the tests.
 #[inline(always)]
 fn is_of_last_line(piece: Piece, line: u32) -> bool
     requires line { 0 < line }
@@ -157,6 +159,46 @@ fn is_ground_below_piece(
     )
 }
 
+/// Returns a line beyond `line` before which no ground is above a piece from target `from` on.
+/// Ground before `line` does not count. `None` where none is found.
+#[inline(always)]
+fn end_of_clear(
+    cells: &[Cell],
+    tops: &[Cell],
+    blocks: LineBlocks,
+    family: Family,
+    line: u32,
+    targets: &[Target],
+    from: usize,
+    piece: Piece,
+) -> Option<u32>
+    requires heights { AreHeights cells.now }
+    requires tops { AreLineTops cells.now family tops.now blocks }
+    requires family { IsFamily family }
+    requires line { IsLine family line }
+    requires targets { AreTargets targets.now }
+    requires range { (from < piece.end) × (piece.end ≤ length targets.now) }
+    requires ramp { IsRampOn targets.now piece.ramp from piece.end }
+    requires clear { (i : ℕ) (t : Target) → from ≤ i → i < piece.end →
+        slice_get targets.now i ≡ Some t → IsClear cells.now family line t piece.ramp }
+    ensures { IfSome result (λ end. (line < end) × ((k : ℕ) → line ≤ k → k < end →
+        IsHiddenOn cells.now family targets.now k piece.ramp from piece.end)) }
+{
+    if line < piece.ramp.clear_to {
+        return Some(piece.ramp.clear_to);
+    }
+    if is_of_last_line(piece, line) {
+        return None;
+    }
+    if let Some(end) = clear_end(tops, blocks, family, line, targets, from, piece) {
+        return Some(end);
+    }
+    if is_ground_below_piece(cells, family, line, targets, from, piece) {
+        return Some(line + 1);
+    }
+    None
+}
+
 /// Extends `raised` by a piece of `highest`, raised to a line's ground.
 fn raise_piece(
     cells: &[Cell],
@@ -172,6 +214,7 @@ fn raise_piece(
     requires line { IsLine family line }
     requires targets { AreTargets targets.now }
     requires highest { IsOver targets.now highest.now }
+    requires clear { AreClear cells.now family targets.now line highest.now }
     requires range { (target_count raised.old < piece.end) × (piece.end ≤ length targets.now) }
     requires piece { (i : ℕ) → target_count raised.old ≤ i → i < piece.end →
         ramp_at highest.now i ≡ Some piece.ramp }
@@ -197,6 +240,8 @@ fn raise_piece(
 /// Raises the horizon `highest` to the ground of a line, into `raised`.
 pub(crate) fn raise(
     cells: &[Cell],
+    tops: &[Cell],
+    blocks: LineBlocks,
     family: Family,
     line: u32,
     targets: &[Target],
@@ -204,10 +249,12 @@ pub(crate) fn raise(
     raised: &mut Horizon,
 ) -> Result<(), AllocError>
     requires heights { AreHeights cells.now }
+    requires tops { AreLineTops cells.now family tops.now blocks }
     requires family { IsFamily family }
     requires line { IsLine family line }
     requires targets { AreTargets targets.now }
     requires highest { IsOver targets.now highest.now }
+    requires clear { AreClear cells.now family targets.now line highest.now }
     ensures { OnOk result ((target_count raised.new ≡ length targets.now)
         × RaisesBelow cells.now family targets.now line highest.now (length targets.now)
         raised.new) }
@@ -218,10 +265,8 @@ pub(crate) fn raise(
     raised.push(from, passed_ramp())?;
     while from < targets.len() {
         let piece = highest.piece(&mut cursor, from);
-        if !is_of_last_line(piece, line)
-            && is_ground_below_piece(cells, family, line, targets, from, piece)
-        {
-            raised.push(piece.end, piece.ramp)?;
+        if let Some(end) = end_of_clear(cells, tops, blocks, family, line, targets, from, piece) {
+            raised.push(piece.end, piece.ramp.cleared_to(end))?;
         } else {
             raise_piece(cells, family, line, targets, highest, piece, raised)?;
         }

@@ -8,11 +8,13 @@ ghost use Rattle.sightlines.specs.Sight.{highest_eye};
 ghost use Rattle.sight.specs.Hiding.{rise_at};
 ghost use Rattle.sight.specs.Raising.{IsRaised};
 ghost use Rattle.sight.specs.Sweep.{IsFamily, IsLine, IsAtCell};
+ghost use Rattle.sight.specs.LineBlocks.{AreLineTops};
 ghost use Rattle.sight.specs.Looking.{LooksFrom};
 ghost use Rattle.sight.specs.declared.family.Family.{Family};
 
 use crate::family::Family;
 use crate::heights::HIGHEST_TARGET;
+use crate::line_blocks::LineBlocks;
 use crate::sweep::Sweep;
 use horizons::{Cursor, Target};
 use std::alloc::{AllocError, Global};
@@ -57,11 +59,14 @@ impl SweepLookup {
     pub(crate) fn go_to(
         &mut self,
         cells: &[Cell],
+        tops: &[Cell],
+        blocks: LineBlocks,
         family: Family,
         line: u32,
         targets: &[Target],
     ) -> Result<(), AllocError>
         requires heights { AreHeights cells.now }
+        requires tops { AreLineTops cells.now family tops.now blocks }
         requires family { IsFamily family }
         requires line { IsLine family line }
         requires range { (0 < self.old.line) × (self.old.line ≤ line) }
@@ -73,7 +78,7 @@ impl SweepLookup {
             return Ok(());
         }
         self.sweep
-            .pass_lines(cells, family, self.line, line, targets)?;
+            .pass_lines(cells, tops, blocks, family, self.line, line, targets)?;
         self.line = line;
         self.cursor = Cursor::start();
         Ok(())

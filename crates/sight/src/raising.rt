@@ -11,30 +11,33 @@ ghost use Rattle.sight.specs.Sweep.{IsFamily};
 ghost use Rattle.sight.specs.Hiding.{IsApart, IsExtent};
 ghost use Rattle.sight.specs.Sides.{IsTileAxis, family_of, extent_of};
 ghost use Rattle.sight.specs.Flags.{flag_at};
+ghost use Rattle.sight.specs.LineBlocks.{AreLineTops};
 ghost use Rattle.sight.specs.Raising.{AreClear, AreRaised, AreTargetHeights, IsRaised};
 
-use crate::extent::{CellRun, Extent};
+use crate::extent::Extent;
 use crate::family::Family;
-use crate::heights::height_at;
+use crate::line_blocks::LineBlocks;
 use crate::looking::SweepLookup;
 use crate::ranks::rank;
 use crate::sides::{TileAxis, family_of};
 use crate::tile::ViewshedInput;
-use sightlines::elevation;
 use std::alloc::{AllocError, Global};
-use terrain::{Cell, Observer, Place};
+use terrain::{Cell, Observer};
 use tiles::Bounds;
 
 /// Raises the targets of the extent's flagged cells over the lines of a family.
 fn raise_over(
     alloc: Global,
     cells: &[Cell],
+    tops: &[Cell],
+    blocks: LineBlocks,
     family: Family,
     extent: Extent,
     flags: &[bool],
     targets: &mut [u32],
 ) -> Result<(), AllocError>
     requires heights { AreHeights cells.now }
+    requires tops { AreLineTops cells.now family tops.now blocks }
     requires family { IsFamily family }
     requires extent { IsExtent family extent flags.now }
     requires apart { IsApart extent }
@@ -46,7 +49,7 @@ fn raise_over(
     let ranked = rank(alloc, &rays)?;
     let mut lookup = SweepLookup::new(alloc, &ranked.targets)?;
     for (number, ray) in rays.iter().enumerate() {
-        lookup.go_to(cells, family, ray.line, &ranked.targets)?;
+        lookup.go_to(cells, tops, blocks, family, ray.line, &ranked.targets)?;
         let index = family.flag_index(extent, *ray);
         let rank = ranked.ranks[number] as usize;
         targets[index] = lookup.raise(cells, family, rank, *ray, targets[index]);
@@ -59,6 +62,8 @@ fn raise_over(
 fn raise_on_both_sides(
     alloc: Global,
     cells: &[Cell],
+    tops: &[Cell],
+    blocks: LineBlocks,
     lines: TileAxis,
     side: TileAxis,
     eye: i64,
@@ -66,6 +71,7 @@ fn raise_on_both_sides(
     targets: &mut [u32],
 ) -> Result<(), AllocError>
     requires heights { AreHeights cells.now }
+    requires tops { AreLineTops cells.now (family_of lines side eye) tops.now blocks }
     requires lines { IsTileAxis lines }
     requires side { IsTileAxis side }
     requires eye { IsElevation eye }
@@ -83,8 +89,17 @@ fn raise_on_both_sides(
         lines: lines.tile,
         side: side.tile,
     };
-    raise_over(alloc, cells, family, extent, flags, targets)?;
-    raise_over(alloc, cells, family.reverse(), extent, flags, targets)
+    raise_over(alloc, cells, tops, blocks, family, extent, flags, targets)?;
+    raise_over(
+        alloc,
+        cells,
+        tops,
+        blocks,
+        family.reverse(),
+        extent,
+        flags,
+        targets,
+    )
 }
 
 impl<'a> ViewshedInput<'a> {
@@ -108,34 +123,31 @@ impl<'a> ViewshedInput<'a> {
             → IsRaised (λ h. not (is_open self.now.grid.now.terrain observer.now p h)) 0
             (slice_index targets.new (index_in bounds p))) }
     {
+        let axes = self.axes(observer, bounds);
+        let (columns, rows, eye) = (axes.columns, axes.rows, axes.eye);
         let cells = self.grid.cells();
-        let cols = self.grid.cols();
-        let stands = Place {
-            row: observer.row,
-            col: observer.col,
-        };
-        // no contract here asks for an observer on data: on NODATA the specs' `height_of` is 0 too
-        let ground = height_at(cells, stands.index_in(cols));
-        let eye = elevation(ground.unwrap_or(0), observer.eye);
-        let columns = TileAxis {
-            at: observer.col,
-            stride: 1,
-            tile: CellRun {
-                first: bounds.left,
-                cells: bounds.cols,
-                stride: 1,
-            },
-        };
-        let rows = TileAxis {
-            at: observer.row,
-            stride: cols as usize,
-            tile: CellRun {
-                first: bounds.top,
-                cells: bounds.rows,
-                stride: bounds.cols as usize,
-            },
-        };
-        raise_on_both_sides(alloc, cells, columns, rows, eye, flags, targets)?;
-        raise_on_both_sides(alloc, cells, rows, columns, eye, flags, targets)
+        let tops = &self.tops.near;
+        raise_on_both_sides(
+            alloc,
+            cells,
+            tops,
+            axes.column_blocks,
+            columns,
+            rows,
+            eye,
+            flags,
+            targets,
+        )?;
+        raise_on_both_sides(
+            alloc,
+            cells,
+            tops,
+            axes.row_blocks,
+            rows,
+            columns,
+            eye,
+            flags,
+            targets,
+        )
     }
 }

@@ -1,7 +1,7 @@
 //! The least target heights of one tile, lowered observer by observer.
 //!
 //! Walks raise one target after the other; a sweep raises those of all cells together. A sweep
-//! costs about the same on all ground, and less than walks unless the tile is small.
+//! costs about the same on all ground, and less than walks unless the tile is small or in full view.
 ghost use Rattle.std.specs.Prelude.{◌≡◌, ℕ, ◌+◌, ◌*◌, ◌<◌, ◌≤◌, false, [], length, None, IfOk, OnOk, slice_index, slice_index_or};
 ghost use Rattle.terrain.specs.Neighbours.{IsInside};
 ghost use Rattle.tiles.specs.Cutting.{AreBounds, IsCutting};
@@ -11,6 +11,7 @@ ghost use Rattle.sight.specs.Rise.{IsRiseAt};
 ghost use Rattle.sight.specs.Lowered.{IsLowered, limit_of, lowered_to, place_in};
 ghost use Rattle.sight.specs.Raising.{IsCandidate};
 
+use crate::flagging::{SAMPLES, sample_at};
 use crate::heights::HIGHEST_TARGET;
 use crate::tile::ViewshedInput;
 use sightlines::{WalkCache, is_candidate, least_height};
@@ -20,8 +21,11 @@ use tile_jobs::Gate;
 use tile_maps::TileMap;
 use tiles::{Bounds, Tiling};
 
-/// From this side on, in cells, a tile is swept.
+/// From this side on, in cells, a tile is swept, unless sampled walks are short.
 const SWEPT_SIDE: u32 = 32;
+
+/// Up to this number of crossings tested by all sampled walks, these are short.
+const SHORT_CROSSINGS: u32 = 16 * SAMPLES;
 
 /// Lowers the values of flagged cells to their targets' heights.
 fn lower_to(flags: &[bool], targets: &[u32], values: &mut [Count])
@@ -107,6 +111,24 @@ impl<'a> ViewshedInput<'a> {
         }
     }
 
+    /// Whether walks to a tile's cells test few crossings, judged by a sample.
+    fn are_walks_short(&self, observer: &Observer, bounds: Bounds) -> bool
+        requires lawful { IsCutting self.now.tiling.now }
+        requires inside { AreBounds self.now.tiling.now bounds }
+        requires observer { IsInside self.now.grid.now.terrain (place_of observer.now) }
+        requires eye { observer.now.eye ≤ highest_eye }
+    {
+        let mut walked = WalkCache::none();
+        for step in 0..SAMPLES {
+            let place = sample_at(bounds, step);
+            self.lowered(observer, place, Count::none(), &mut walked);
+            if walked.crossings_tested > SHORT_CROSSINGS {
+                return false;
+            }
+        }
+        true
+    }
+
     /// Returns a flag for each cell of a tile; unflagged cells are seen at no height.
     fn candidates(
         &self,
@@ -175,7 +197,8 @@ impl<'a> ViewshedInput<'a> {
             IsLowered self.now.grid.now.terrain observer.now self.now.radius (place_in bounds k)
             (slice_index_or values.old k None) (slice_index_or values.new k None)) }
     {
-        if bounds.rows.min(bounds.cols) >= SWEPT_SIDE {
+        let is_large = bounds.rows.min(bounds.cols) >= SWEPT_SIDE;
+        if is_large && !self.are_walks_short(observer, bounds) {
             return self.lower_by_sweeps(alloc, observer, bounds, values);
         }
         self.lower_by_walks(observer, bounds, values);

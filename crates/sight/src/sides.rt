@@ -10,15 +10,17 @@ ghost use Rattle.tiles.specs.Cutting.{AreBounds, IsCutting};
 ghost use Rattle.sightlines.specs.Sight.{highest_eye, is_open, place_of};
 ghost use Rattle.sightlines.specs.Walk.{AreHeights, IsElevation};
 ghost use Rattle.sight.specs.Hiding.{IsApart};
-ghost use Rattle.sight.specs.Sides.{AreOpen, IsTileAxis, facing, family_of, extent_of};
+ghost use Rattle.sight.specs.Sides.{AreOpen, IsTileAxis, columns_at, rows_at, eye_of, facing, family_of, extent_of};
+ghost use Rattle.sight.specs.LineBlocks.{AreLineTops};
 ghost use Rattle.sight.specs.Flags.{AreLeft};
 
 use crate::extent::{CellRun, Extent};
 use crate::family::{Family, Lines, Side};
 use crate::heights::height_at;
 use crate::hiding::hide;
+use crate::line_blocks::LineBlocks;
 use crate::tile::ViewshedInput;
-use sightlines::elevation;
+use sightlines::{NEAR_BLOCK, blocks_in, elevation};
 use std::alloc::{AllocError, Global};
 use terrain::{Cell, Observer, Place};
 use tiles::Bounds;
@@ -73,11 +75,24 @@ pub(crate) fn family_of(lines: TileAxis, side: TileAxis, eye: i64) -> Family
     }
 }
 
+/// Both axes of the grid with an observer and a tile on them, and the elevation of the eye.
+/// `column_blocks` are for families of columns, `row_blocks` for those of rows.
+#[derive(Clone, Copy)]
+pub struct TileAxes {
+    pub columns: TileAxis,
+    pub rows: TileAxis,
+    pub column_blocks: LineBlocks,
+    pub row_blocks: LineBlocks,
+    pub eye: i64,
+}
+
 /// Clears the flags of cells that lines on either side of the observer hide.
 /// The lines of both families are counted along the axis `lines`, and run along the axis `side`.
 fn hide_on_both_sides(
     alloc: Global,
     cells: &[Cell],
+    tops: &[Cell],
+    blocks: LineBlocks,
     lines: TileAxis,
     side: TileAxis,
     eye: i64,
@@ -85,6 +100,7 @@ fn hide_on_both_sides(
     flags: &mut [bool],
 ) -> Result<(), AllocError>
     requires heights { AreHeights cells.now }
+    requires tops { AreLineTops cells.now (family_of lines side eye) tops.now blocks }
     requires lines { IsTileAxis lines }
     requires side { IsTileAxis side }
     requires eye { IsElevation eye }
@@ -101,11 +117,82 @@ fn hide_on_both_sides(
         lines: lines.tile,
         side: side.tile,
     };
-    hide(alloc, cells, family, extent, height, flags)?;
-    hide(alloc, cells, family.reverse(), extent, height, flags)
+    hide(alloc, cells, tops, blocks, family, extent, height, flags)?;
+    hide(
+        alloc,
+        cells,
+        tops,
+        blocks,
+        family.reverse(),
+        extent,
+        height,
+        flags,
+    )
 }
 
 impl<'a> ViewshedInput<'a> {
+    /// Returns the axes of the grid with an observer and a tile on them.
+    pub(crate) fn axes(&self, observer: &Observer, bounds: Bounds) -> TileAxes
+        requires lawful { IsCutting self.now.tiling.now }
+        requires inside { AreBounds self.now.tiling.now bounds }
+        requires observer { IsInside self.now.grid.now.terrain (place_of observer.now) }
+        requires eye { observer.now.eye ≤ highest_eye }
+        ensures columns { result.columns ≡ columns_at bounds (place_of observer.now) }
+        ensures rows { result.rows
+            ≡ rows_at self.now.grid.now.terrain bounds (place_of observer.now) }
+        ensures eye { result.eye ≡ eye_of self.now.grid.now.terrain observer.now }
+        ensures elevation { IsElevation result.eye }
+        ensures limits { IsTileAxis result.columns × IsTileAxis result.rows }
+        ensures apart { IsApart (extent_of result.columns result.rows)
+            × IsApart (extent_of result.rows result.columns) }
+        ensures column_tops { AreLineTops self.now.grid.now.terrain.cells
+            (family_of result.columns result.rows result.eye) self.now.tops.now.near.items
+            result.column_blocks }
+        ensures row_tops { AreLineTops self.now.grid.now.terrain.cells
+            (family_of result.rows result.columns result.eye) self.now.tops.now.near.items
+            result.row_blocks }
+    {
+        let cols = self.grid.cols();
+        let stands = Place {
+            row: observer.row,
+            col: observer.col,
+        };
+        // no contract here asks for an observer on data: on NODATA the specs' `height_of` is 0 too
+        let ground = height_at(self.grid.cells(), stands.index_in(cols));
+        let blocks = blocks_in(NEAR_BLOCK, cols);
+        TileAxes {
+            columns: TileAxis {
+                at: observer.col,
+                stride: 1,
+                tile: CellRun {
+                    first: bounds.left,
+                    cells: bounds.cols,
+                    stride: 1,
+                },
+            },
+            rows: TileAxis {
+                at: observer.row,
+                stride: cols as usize,
+                tile: CellRun {
+                    first: bounds.top,
+                    cells: bounds.rows,
+                    stride: bounds.cols as usize,
+                },
+            },
+            column_blocks: LineBlocks {
+                across: 1,
+                along: blocks,
+                end: cols,
+            },
+            row_blocks: LineBlocks {
+                across: blocks,
+                along: 1,
+                end: self.grid.rows(),
+            },
+            eye: elevation(ground.unwrap_or(0), observer.eye),
+        }
+    }
+
     /// Clears the flags of places whose line of sight a crossing blocks.
     pub(crate) fn hide_blocked(
         &self,
@@ -123,35 +210,32 @@ impl<'a> ViewshedInput<'a> {
             (λ (p : Place). is_open self.now.grid.now.terrain observer.now p self.now.target_height)
             flags.old flags.new) }
     {
+        let axes = self.axes(observer, bounds);
+        let (columns, rows, eye) = (axes.columns, axes.rows, axes.eye);
         let cells = self.grid.cells();
-        let cols = self.grid.cols();
-        let stands = Place {
-            row: observer.row,
-            col: observer.col,
-        };
-        // no contract here asks for an observer on data: on NODATA the specs' `height_of` is 0 too
-        let ground = height_at(cells, stands.index_in(cols));
-        let eye = elevation(ground.unwrap_or(0), observer.eye);
-        let columns = TileAxis {
-            at: observer.col,
-            stride: 1,
-            tile: CellRun {
-                first: bounds.left,
-                cells: bounds.cols,
-                stride: 1,
-            },
-        };
-        let rows = TileAxis {
-            at: observer.row,
-            stride: cols as usize,
-            tile: CellRun {
-                first: bounds.top,
-                cells: bounds.rows,
-                stride: bounds.cols as usize,
-            },
-        };
+        let tops = &self.tops.near;
         let height = self.target_height;
-        hide_on_both_sides(alloc, cells, columns, rows, eye, height, flags)?;
-        hide_on_both_sides(alloc, cells, rows, columns, eye, height, flags)
+        hide_on_both_sides(
+            alloc,
+            cells,
+            tops,
+            axes.column_blocks,
+            columns,
+            rows,
+            eye,
+            height,
+            flags,
+        )?;
+        hide_on_both_sides(
+            alloc,
+            cells,
+            tops,
+            axes.row_blocks,
+            rows,
+            columns,
+            eye,
+            height,
+            flags,
+        )
     }
 }

@@ -3,10 +3,12 @@
 ghost use Rattle.std.specs.Prelude.{◌+◌, ◌≤◌, ℤ, List, Option, IfOk, OnOk};
 ghost use Rattle.horizons.specs.Horizons.{AreTargets};
 ghost use Rattle.sightlines.specs.Walk.{AreHeights};
+ghost use Rattle.sight.specs.LineBlocks.{AreLineTops};
 ghost use Rattle.sight.specs.Sweep.{IsFamily, IsLine, HidesBefore};
 ghost use Rattle.sight.specs.declared.family.Family.{Family};
 
 use crate::family::Family;
+use crate::line_blocks::LineBlocks;
 use crate::line_ground::raise;
 use horizons::{Horizon, Ramp, Target};
 use std::alloc::{AllocError, Global};
@@ -41,11 +43,14 @@ impl Sweep {
     fn pass(
         &mut self,
         cells: &[Cell],
+        tops: &[Cell],
+        blocks: LineBlocks,
         family: Family,
         line: u32,
         targets: &[Target],
     ) -> Result<(), AllocError>
         requires heights { AreHeights cells.now }
+        requires tops { AreLineTops cells.now family tops.now blocks }
         requires family { IsFamily family }
         requires line { IsLine family line }
         requires targets { AreTargets targets.now }
@@ -53,7 +58,16 @@ impl Sweep {
         ensures { OnOk result
             (HidesBefore cells.now family targets.now (line + 1) self.new.highest) }
     {
-        raise(cells, family, line, targets, &self.highest, &mut self.spare)?;
+        raise(
+            cells,
+            tops,
+            blocks,
+            family,
+            line,
+            targets,
+            &self.highest,
+            &mut self.spare,
+        )?;
         mem::swap(&mut self.highest, &mut self.spare);
         Ok(())
     }
@@ -62,12 +76,15 @@ impl Sweep {
     pub(crate) fn pass_lines(
         &mut self,
         cells: &[Cell],
+        tops: &[Cell],
+        blocks: LineBlocks,
         family: Family,
         from: u32,
         to: u32,
         targets: &[Target],
     ) -> Result<(), AllocError>
         requires heights { AreHeights cells.now }
+        requires tops { AreLineTops cells.now family tops.now blocks }
         requires family { IsFamily family }
         requires range { from ≤ to }
         requires from { IsLine family from }
@@ -77,7 +94,7 @@ impl Sweep {
         ensures { OnOk result (HidesBefore cells.now family targets.now to self.new.highest) }
     {
         for line in from..to {
-            self.pass(cells, family, line, targets)?;
+            self.pass(cells, tops, blocks, family, line, targets)?;
         }
         Ok(())
     }

@@ -32,8 +32,8 @@ returns-then-span-end_offset c =
     (high_raised c.args.cells.now f targets c.args.line from c.args.piece.end c.args.highest.now
     span.offset u c.passed_ramp.result c.loop-from.raised c.push.new.self c.requires.line.0
     c.requires.family c.requires.targets at_u c.span-span.ensures.passes past
-    c.loop-from.invariant.target_count c.loop-from-test.true c.passed_ramp.ensures
-    c.loop-from.invariant.raises)
+    c.loop-from.invariant.target_count c.loop-from-test.true c.passed_ramp.ensures.at
+    c.passed_ramp.ensures.clear c.loop-from.invariant.raises)
     c.push.ensures
 
 pub end_of-end-requires-clause-passes : goal.end_of-end-requires-clause-passes
@@ -73,8 +73,9 @@ loop-from-preserved c =
     let raised = greater_raised c.args.cells.now c.args.family c.args.targets.now c.args.line
     l.from c.end_of-end.result c.args.highest.now c.span-span.result.ramp c.args.piece.ramp l.raised
     c.push_greater.new.into l.invariant.target_count range.0
-    c.requires.highest (λ i low high. c.requires.piece i (omega (arith, l.invariant.within))
-    (omega (arith, range))) c.in_ok-push_greater.ensures l.invariant.raises shows in
+    c.requires.highest c.requires.clear (λ i low high. c.requires.piece i (omega
+    (arith, l.invariant.within)) (omega (arith, range))) c.span-span.ensures.clear
+    c.in_ok-push_greater.ensures l.invariant.raises shows in
     record {
       within = (omega (arith, l.invariant.within, range), range.1);
       target_count = raised.0;

@@ -27,19 +27,23 @@ returns-clause-inside c =
     OnTrue_from c.eq.result (offset ≤ℤ pos 4096) (λ yes.
     omega (arith, ints, cell.1, cell.2, c.requires.family))
 
-ramp_is : (a b c d : ℤ) (m n : ℕ) → a ≡ b → c ≡ d → m ≡ n → (let r : Ramp =
-    record { gain = a; intercept = c; lines = m } in r)
-    ≡ record { gain = b; intercept = d; lines = n }
-ramp_is a b c d m n p q r = rw (p, q, r) refl
+ramp_is : (a b c d : ℤ) (m n p q : ℕ) → a ≡ b → c ≡ d → m ≡ n → p ≡ q → (let r : Ramp =
+    record { gain = a; intercept = c; lines = m; clear_to = p } in r)
+    ≡ record { gain = b; intercept = d; lines = n; clear_to = q }
+ramp_is a b c d m n p q e f g h = rw (e, f, g, h) refl
 
 same_ramp : (r s : Ramp) →
-    (int_eq r.gain s.gain && (int_eq r.intercept s.intercept && eqb r.lines s.lines)) ≡ true → r ≡ s
+    (int_eq r.gain s.gain && (int_eq r.intercept s.intercept
+    && (eqb r.lines s.lines && eqb r.clear_to s.clear_to))) ≡ true → r ≡ s
 same_ramp r s e =
-    let first =
-    and_parts (int_eq r.gain s.gain) (int_eq r.intercept s.intercept && eqb r.lines s.lines) e in
-    let rest = and_parts (int_eq r.intercept s.intercept) (eqb r.lines s.lines) first.1 in
-    ramp_is r.gain s.gain r.intercept s.intercept r.lines s.lines (int_same r.gain s.gain first.0)
-    (int_same r.intercept s.intercept rest.0) (eqb-true r.lines s.lines rest.1)
+    let first = and_parts (int_eq r.gain s.gain) (int_eq r.intercept s.intercept
+    && (eqb r.lines s.lines && eqb r.clear_to s.clear_to)) e in
+    let rest = and_parts (int_eq r.intercept s.intercept)
+    (eqb r.lines s.lines && eqb r.clear_to s.clear_to) first.1 in
+    let last = and_parts (eqb r.lines s.lines) (eqb r.clear_to s.clear_to) rest.1 in
+    ramp_is r.gain s.gain r.intercept s.intercept r.lines s.lines r.clear_to s.clear_to
+    (int_same r.gain s.gain first.0) (int_same r.intercept s.intercept rest.0)
+    (eqb-true r.lines s.lines last.0) (eqb-true r.clear_to s.clear_to last.1)
   where
     int_same : (x y : ℤ) → int_eq x y ≡ true → x ≡ y
     int_same x y e = grind (arith, ints)

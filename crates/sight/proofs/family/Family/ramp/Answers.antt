@@ -91,6 +91,7 @@ returns c =
     )
     (record {
       ramp = refl;
+      clear = refl;
       at = λ t is_t passes. ramp_is c.args.self line offset near far t c.requires.family
           c.requires.line heights.0 heights.1 is_t passes;
     })

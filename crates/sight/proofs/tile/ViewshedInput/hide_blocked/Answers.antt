@@ -1,25 +1,14 @@
-use Rattle.std.proofs.Common.{rules, arith, ◌≡◌, ◌+◌, ◌*◌, ◌≤◌, None, get_or, not, pos, ◌+ℤ◌, ap, sym, ◌∙◌, unwrap_or}
+use Rattle.std.proofs.Common.{rules, arith, ◌+◌, ◌≤◌, not, pos, ◌+ℤ◌}
 use Rattle.std.specs.Int.{w64}
 use Rattle.std.proofs.lemmas.Int.{to_z-of_z}
 use Rattle.std.proofs.lemmas.Result.{on_ok_weaker}
-use Rattle.terrain.specs.Neighbours.{height_at, height_of}
+use Rattle.terrain.specs.Neighbours.{height_of}
 use Rattle.terrain.specs.declared.place.Place.{Place}
 use Rattle.sightlines.specs.Sight.{column_blocks, row_blocks, place_of}
-use Rattle.sightlines.specs.Walk.{AreHeights}
-use Rattle.sight.specs.Sides.{AreOpen, family_of, extent_of}
-use Rattle.sightlines.proofs.Heights.{are_heights, ground_is_height, kept}
-use Rattle.sightlines.proofs.Crossings.{height_is}
-use Rattle.sight.proofs.PlacesLeft.{columns_at, rows_at, column_flags, row_flags, columns_left, rows_left, left_both}
+use Rattle.sight.specs.Sides.{columns_at, rows_at, eye_of, AreOpen, family_of, extent_of}
+use Rattle.sightlines.proofs.Heights.{are_heights}
+use Rattle.sight.proofs.PlacesLeft.{column_flags, row_flags, columns_left, rows_left, left_both}
 use Rattle.sight.proofs.tile.ViewshedInput.hide_blocked.Goals as goal
-
-pub elevation-eye-requires-clause-height : goal.elevation-eye-requires-clause-height
-elevation-eye-requires-clause-height c =
-    let t = c.args.self.now.grid.now.terrain in
-    let ground = c.unwrap_or.result in
-    let are : AreHeights c.cells-cells.result.now =
-    rw c.cells-cells.ensures.value (are_heights t c.cells-cells.ensures.lawful.terrain) in
-    kept ground (rw c.unwrap_or.ensures (ground_is_height c.height_at-ground.result
-    (λ h is. are _ h (sym c.height_at-ground.ensures ∙ is))))
 
 pub hide_on_both_sides-requires-clause-heights : goal.hide_on_both_sides-requires-clause-heights
 hide_on_both_sides-requires-clause-heights c = rw c.cells-cells.ensures.value
@@ -29,13 +18,25 @@ pub hide_on_both_sides-requires-2-clause-heights : goal.hide_on_both_sides-requi
 hide_on_both_sides-requires-2-clause-heights c = rw c.cells-cells.ensures.value
     (are_heights c.args.self.now.grid.now.terrain c.cells-cells.ensures.lawful.terrain)
 
+pub hide_on_both_sides-requires-clause-tops : goal.hide_on_both_sides-requires-clause-tops
+hide_on_both_sides-requires-clause-tops c =
+    rw (c.cells-cells.ensures.value, c.deref.ensures.value, to_z-of_z w64 c.axes-axes.result.eye (search rules))
+    c.axes-axes.ensures.column_tops
+
+pub hide_on_both_sides-requires-2-clause-tops : goal.hide_on_both_sides-requires-2-clause-tops
+hide_on_both_sides-requires-2-clause-tops c =
+    rw (c.cells-cells.ensures.value, c.deref-2.ensures.value, to_z-of_z w64 c.axes-axes.result.eye (search rules))
+    c.axes-axes.ensures.row_tops
+
 pub hide_on_both_sides-requires-clause-inside : goal.hide_on_both_sides-requires-clause-inside
-hide_on_both_sides-requires-clause-inside c x y in_x in_y =
-    column_flags c.args.bounds x y _ c.requires.size in_x in_y
+hide_on_both_sides-requires-clause-inside c =
+    rw (c.axes-axes.ensures.columns, c.axes-axes.ensures.rows)
+    (λ x y in_x in_y. column_flags c.args.bounds x y _ c.requires.size in_x in_y)
 
 pub hide_on_both_sides-requires-2-clause-inside : goal.hide_on_both_sides-requires-2-clause-inside
-hide_on_both_sides-requires-2-clause-inside c x y in_x in_y =
-    row_flags c.args.bounds x y _ (omega (arith, c.requires.size)) in_x in_y
+hide_on_both_sides-requires-2-clause-inside c =
+    rw (c.axes-axes.ensures.columns, c.axes-axes.ensures.rows)
+    (λ x y in_x in_y. row_flags c.args.bounds x y _ (omega (arith, c.requires.size)) in_x in_y)
 
 pub returns : goal.returns
 returns c =
@@ -44,18 +45,9 @@ returns c =
     let o = c.args.observer.now in
     let p = place_of o in
     let b = c.args.bounds in
-    let ground = c.unwrap_or.result in
-    let index : c.index_in.result ≡ p.row * t.cols + p.col =
-    rw c.cols-cols.ensures.value at c.index_in.ensures in
-    let at : get_or c.cells-cells.result.now c.index_in.result None ≡ height_at t p =
-    rw c.cells-cells.ensures.value (sym (height_is t p.row p.col c.index_in.result
-    c.requires.observer.0 c.requires.observer.1 index)) in
-    let elevation = rw (to_z-of_z w64 ground (search rules)) at c.elevation-eye.ensures.value in
-    let eye : c.elevation-eye.result ≡ height_of t p +ℤ pos o.eye = elevation ∙ ap (λ z.
-    z +ℤ pos o.eye) (c.unwrap_or.ensures ∙ ap (λ h. unwrap_or h (pos 0)) c.height_at-ground.ensures
-    ∙ ap (λ h. unwrap_or h (pos 0)) at) in
-    let back = to_z-of_z w64 c.elevation-eye.result (search rules) in
-    let e = height_of t p +ℤ pos o.eye in
+    let axes = c.axes-axes.ensures in
+    let back = to_z-of_z w64 c.axes-axes.result.eye (search rules) in
+    let e = eye_of t o in
     let in_rows : b.top + b.rows ≤ t.rows =
     omega (arith, c.requires.inside.rows_inside, self.cut) in
     let in_cols : b.left + b.cols ≤ t.cols =
@@ -64,9 +56,9 @@ returns c =
     let new = c.hide_on_both_sides-2.new.flags in
     let open_columns : AreOpen t.cells (family_of (columns_at b p) (rows_at t b p) e)
     (extent_of (columns_at b p) (rows_at t b p)) self.target_height c.args.flags.now mid =
-    rw (c.cells-cells.ensures.value, c.cols-cols.ensures.value, back, eye)
+    rw (c.cells-cells.ensures.value, back, axes.columns, axes.rows, axes.eye)
     at c.in_ok-hide_on_both_sides.ensures in
-    let open_rows = rw (c.cells-cells.ensures.value, c.cols-cols.ensures.value, back, eye)
+    let open_rows = rw (c.cells-cells.ensures.value, back, axes.columns, axes.rows, axes.eye)
     at c.hide_on_both_sides-2.ensures in
     let columns = columns_left t p b e self.target_height c.args.flags.now mid c.requires.observer
     in_rows in_cols open_columns in
