@@ -12,7 +12,8 @@ use Rattle.terrain.proofs.Places.{make_place, inside_from_entry, entry-inside}
 use Rattle.sightlines.specs.Blocks.{blocks_in, block_of, IsTopOf, AreTops}
 use Rattle.tiles.specs.Cutting.{IsInBounds, index_in, place_in}
 use Rattle.tiles.specs.declared.bounds.Bounds.{Bounds}
-use Rattle.tiles.proofs.TileOrder.{index_in_below, index_in-place_in, place_in_bounds}
+use Rattle.tiles.proofs.TileOrder.{index_in_below, index_in-place_in}
+use Rattle.sight.proofs.Indexed.{place_inside}
 use Rattle.tile_maps.specs.Maps.{IsMadeUpTo}
 use Rattle.sight.specs.BlockTops.{ground_of, IsGround, IsBlockTop, all_blocks, blocks_begun}
 use Rattle.sightlines.proofs.LowBlocks.{block_before}
@@ -123,7 +124,7 @@ made_tops size t tops some made =
       heights = λ i h is. elim (cases_lt i (length tops)) [
         | inl within ↦
             let below : i < b.rows * b.cols = omega (arith, made.size) in
-            let inside = place_in_bounds b i (positive b.rows b.cols i below) below in
+            let inside = place_inside b i below in
             (top (place_in b i) inside).height h
             (ap (λ n. get_or tops n None) (index_in-place_in b i) ∙ is)
         | inr past ↦ let none = get_or_past tops i None past in absurd (cc)
@@ -141,9 +142,6 @@ made_tops size t tops some made =
   where
     whole : (n : ℕ) → n - 0 ≡ n
     whole n = omega arith
-
-    positive : (r c k : ℕ) → k < r * c → 1 ≤ c
-    positive r c k h = grind arith
 
 -- a block whose first cell lies in the bounds is among the blocks that begin there
 pub begins_there : (b : Bounds) (block : Place) →

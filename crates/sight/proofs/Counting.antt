@@ -8,14 +8,14 @@ use Rattle.terrain.specs.Raster.{Terrain}
 use Rattle.terrain.specs.Neighbours.{height_at}
 use Rattle.terrain.specs.declared.place.Place.{Place}
 use Rattle.tiles.specs.declared.bounds.Bounds.{Bounds}
-use Rattle.tiles.specs.Cutting.{IsInBounds, index_in}
+use Rattle.tiles.specs.Cutting.{IsInBounds, index_in, place_in}
 use Rattle.tile_maps.specs.Maps.{IsMadeUpTo}
 use Rattle.sightlines.specs.Sight.{is_seen}
 use Rattle.sight.specs.Viewshed.{viewshed_value}
 use Rattle.sight.specs.Viewed.{value_at, HasValue, counted, AreAtMost}
 use Rattle.sight.specs.Flags.{AreFlags, FlagsSeen}
-use Rattle.sight.specs.Lowered.{place_in}
-use Rattle.sight.proofs.Indexed.{place_inside, place_at}
+use Rattle.tiles.proofs.TileOrder.{index_in-place_in}
+use Rattle.sight.proofs.Indexed.{place_inside}
 use Rattle.terrain.specs.declared.observer.Observer.{Observer}
 
 counted_yes : (h : Option ℤ) (n m : ℕ) → m ≡ n + 1 →
@@ -84,8 +84,8 @@ few t os target radius i b values made k n e = elim (cases_lt k (length values))
       (let below : k < b.rows * b.cols = omega (arith, made.size) in
       let p = place_in b k in
       let here : get_or values k None ≡ value_at t (take i os) target radius p =
-      made.each p (place_inside b k below) (omega (arith, place_at b k below)) (get_or values k None)
-      (ap (slice_get values) (place_at b k below) ∙ slice_get-get_or values k None less) in
+      made.each p (place_inside b k below) (omega (arith, index_in-place_in b k)) (get_or values k None)
+      (ap (slice_get values) (index_in-place_in b k) ∙ slice_get-get_or values k None less) in
       let is : n ≡ viewshed_value t (take i os) target radius p =
       value_few (height_at t p) n (viewshed_value t (take i os) target radius p) (sym here ∙ e) in
       omega (

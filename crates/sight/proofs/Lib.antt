@@ -1,5 +1,7 @@
 -- worked examples
 mod Rows
+-- places by their indexes
+pub mod Indexed
 -- the greatest heights of blocks of cells
 pub mod BlockLists
 -- rays, and the ramps of the ground that they meet
@@ -28,7 +30,6 @@ pub mod Refused
 -- the values of a tile, observer by observer
 pub mod Far
 pub mod FlagLists
-pub mod Indexed
 pub mod Counting
 pub mod Lowering
 pub mod Swept

@@ -9,13 +9,14 @@ use Rattle.terrain.specs.Raster.{Terrain}
 use Rattle.terrain.specs.declared.place.Place.{Place}
 use Rattle.terrain.specs.declared.observer.Observer.{Observer}
 use Rattle.tiles.specs.declared.bounds.Bounds.{Bounds}
-use Rattle.tiles.specs.Cutting.{Cutting, Cuts, IsInBounds, index_in}
+use Rattle.tiles.specs.Cutting.{Cutting, Cuts, IsInBounds, index_in, place_in}
 use Rattle.tile_maps.specs.Maps.{IsMadeUpTo, IsMadeMap}
 use Rattle.tile_maps.proofs.Whole.{map_of_size}
 use Rattle.sightlines.specs.Sight.{is_seen, highest_eye}
 use Rattle.sight.specs.Rise.{is_seen_by_any, IsRiseAt, IsRise}
-use Rattle.sight.specs.Lowered.{limit_of, IsLeast, IsLowered, place_in}
-use Rattle.sight.proofs.Indexed.{place_inside, place_at, place_back}
+use Rattle.sight.specs.Lowered.{limit_of, IsLeast, IsLowered, AreLow, AreLowered}
+use Rattle.tiles.proofs.TileOrder.{index_in-place_in, place_in-index_in}
+use Rattle.sight.proofs.Indexed.{place_inside}
 
 pub limit_low : (t : Terrain) (os : List Observer) (radius : ℕ) (p : Place) (value : Option ℕ) →
     IsRiseAt t os radius p value → limit_of value ≤ highest_eye + 1
@@ -84,8 +85,7 @@ value_lowered t os radius i d p old new less before lowered =
 pub tile_lowered : (t : Terrain) (os : List Observer) (radius i : ℕ) (d : Observer) (b : Bounds)
     (old new : List (Option ℕ)) → i < length os
     → IsMadeUpTo b (IsRiseAt t (take i os) radius) (b.rows * b.cols) old → length new ≡ length old
-    → ((k : ℕ) → k < length old → IsLowered t (get_or os i d) radius (place_in b k)
-    (get_or old k None) (get_or new k None))
+    → AreLowered t (get_or os i d) radius b old new
     → IsMadeUpTo b (IsRiseAt t (take (i + 1) os) radius) (b.rows * b.cols) new
 tile_lowered t os radius i d b old new less before size each = record {
   size = size ∙ before.size;
@@ -94,7 +94,7 @@ tile_lowered t os radius i d b old new less before size each = record {
       let room : k < length old = omega (arith, below, before.size) in
       let had = before.each p inside below (get_or old k None) (slice_get-get_or old k None room) in
       let lowered = subst (λ (q : Place). IsLowered t (get_or os i d) radius q (get_or old k None)
-      (get_or new k None)) (place_back b p inside) (each k room) in
+      (get_or new k None)) (place_in-index_in b p inside) (each k room) in
       subst (IsRiseAt t (take (i + 1) os) radius p) (get_or_from_slice_get new k entry None is)
       (value_lowered t os radius i d p (get_or old k None) (get_or new k None) less had lowered);
 }
@@ -114,14 +114,14 @@ tile_kept t os radius i d b values less before none = record {
 }
 
 pub limits_low : (t : Terrain) (os : List Observer) (radius : ℕ) (b : Bounds)
-    (values : List (Option ℕ)) → IsMadeUpTo b (IsRiseAt t os radius) (b.rows * b.cols) values
-    → (k : ℕ) → limit_of (get_or values k None) ≤ highest_eye + 1
+    (values : List (Option ℕ)) → IsMadeUpTo b (IsRiseAt t os radius) (b.rows * b.cols) values →
+    AreLow values
 limits_low t os radius b values made k = elim (cases_lt k (length values)) [
   | inl less ↦
       let below : k < b.rows * b.cols = omega (arith, made.size) in
       limit_low t os radius (place_in b k) (get_or values k None)
-      (made.each (place_in b k) (place_inside b k below) (omega (arith, place_at b k below))
-      (get_or values k None) (ap (slice_get values) (place_at b k below)
+      (made.each (place_in b k) (place_inside b k below) (omega (arith, index_in-place_in b k))
+      (get_or values k None) (ap (slice_get values) (index_in-place_in b k)
       ∙ slice_get-get_or values k None less))
   | inr past ↦
       let low : limit_of None ≤ highest_eye + 1 = omega arith in

@@ -1,4 +1,4 @@
--- Upper bounds of the heights of near blocks, 16 by 16 cells, along the axes of a family. A family's
+-- Upper bounds of the heights of near blocks, 16 by 16 cells, along a family's axes. A family's
 -- lines are the columns, or the rows, on one side of an observer.
 -- Private.
 use Rattle.std.specs.Prelude.{◌≡◌, ℕ, ◌+◌, ◌*◌, ◌/◌, ◌<◌, ◌≤◌, ℤ, List, Option, None, Some, slice_index_or}

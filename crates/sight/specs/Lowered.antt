@@ -1,10 +1,11 @@
 -- How one more observer lowers the rise of a place.
 -- Private.
-use Rattle.std.specs.Prelude.{◌≡◌, ℕ, ◌+◌, ◌/◌, ◌%◌, ◌<◌, ◌≤◌, Bool, true, false, ◌&&◌, nat_lt, if◌then◌else◌, Option, Some, unwrap_or}
+use Rattle.std.specs.Prelude.{◌≡◌, ℕ, ◌+◌, ◌<◌, ◌≤◌, Bool, true, false, ◌&&◌, nat_lt, if◌then◌else◌, List, length, Option, None, Some, unwrap_or, slice_index_or}
 use Rattle.terrain.specs.Raster.{Terrain}
 use Rattle.terrain.specs.declared.place.Place.{Place}
 use Rattle.terrain.specs.declared.observer.Observer.{Observer}
 use Rattle.tiles.specs.declared.bounds.Bounds.{Bounds}
+use Rattle.tiles.specs.Cutting.{place_in}
 use Rattle.sightlines.specs.Sight.{is_seen, highest_eye}
 
 -- The heights below this one are those that would lower a value.
@@ -29,6 +30,11 @@ IsLowered t o radius p old new = (least : ℕ) × IsLeast t o radius p (limit_of
 abbrev pub lowered_to : Bool → ℕ → Option ℕ → Option ℕ
 lowered_to flag height value = if flag && nat_lt height (limit_of value) then Some height else value
 
--- The place of an index in the row order of the bounds.
-abbrev pub place_in : Bounds → ℕ → Place
-place_in b index = record { row = b.top + index / b.cols; col = b.left + index % b.cols }
+-- No value is above the greatest height.
+abbrev pub AreLow : List (Option ℕ) → Type 0
+AreLow values = (k : ℕ) → limit_of (slice_index_or values k None) ≤ highest_eye + 1
+
+-- Each value of a list in the row order of the bounds is lowered by one more observer.
+abbrev pub AreLowered : Terrain → Observer → ℕ → Bounds → List (Option ℕ) → List (Option ℕ) → Type 0
+AreLowered t o radius b old new = (k : ℕ) → k < length old → IsLowered t o radius (place_in b k)
+    (slice_index_or old k None) (slice_index_or new k None)

@@ -136,8 +136,8 @@ AreClear cells f targets k h = (i : ℕ) (t : Target) (r : Ramp) → slice_get t
     ramp_at h i ≡ Some r → IsClear cells f k t r
 
 -- The ramp is within bounds at target t, of index i, and clear beyond line k (`IsClear`). If t is
--- beyond line k, then at each rise within the limit the ramp hides t exactly if the old horizon does
--- or line k blocks t.
+-- beyond line k, then at each rise within the limit the ramp hides t exactly if the old horizon
+-- does or line k blocks t.
 pub record Raises (cells : List (Option ℤ)) (f : Family) (k : ℕ) (old : List Piece) (i : ℕ)
     (t : Target) (r : Ramp) : Type 0 where
   pub at : IsRampAt r t
@@ -153,9 +153,9 @@ RaisesBelow cells f targets k old end new =
     (i : ℕ) (t : Target) → i < end → slice_get targets i ≡ Some t
     → (r : Ramp) × (ramp_at new i ≡ Some r) × Raises cells f k old i t r
 
--- The horizon covers the targets, with a ramp within bounds at each (`IsOver`), clear from line k on
--- (`AreClear`). Take a target on line k or beyond, at a rise within the limit. The horizon hides the
--- target exactly if a line before line k blocks it.
+-- The horizon covers the targets, with a ramp within bounds at each (`IsOver`), clear from line k
+-- on (`AreClear`). Take a target on line k or beyond, at a rise within the limit. The horizon hides
+-- the target exactly if a line before line k blocks it.
 pub record HidesBefore (cells : List (Option ℤ)) (f : Family) (targets : List Target) (k : ℕ)
     (h : List Piece) : Type 0 where
   pub over : IsOver targets h

@@ -185,7 +185,7 @@ impl Family {
         }
     }
 
-    /// Returns the first cell of the side at offset `low` to `high + 1`, and the cell after the last.
+    /// Returns the first cell at offset `low` to `high + 1`, and the cell after the last one.
     #[inline(always)]
     pub(crate) fn cells_between(self, low: i32, high: i32) -> (u32, u32)
         requires family { IsFamily self }

@@ -31,7 +31,7 @@ pub struct LineBlocks {
 }
 
 impl Family {
-    /// Returns the last line, from `line` on, whose cells are in the near blocks of those of `line`.
+    /// Returns the last line, from `line` on, with cells in the near blocks of those of `line`.
     /// `None` for a line outside the grid.
     #[inline(always)]
     fn last_in_blocks(self, blocks: LineBlocks, line: u32) -> Option<u32>
@@ -52,7 +52,7 @@ impl Family {
         Some(line + (NEAR_BLOCK - 1 - in_block).min(blocks.end - 1 - lead))
     }
 
-    /// Returns the greatest height of the blocks with a line's cells from offset `low` to `high + 1`.
+    /// Returns the greatest height of blocks with a line's cells at offset `low` to `high + 1`.
     /// `None` where no such block has data.
     #[inline(always)]
     fn block_top(
@@ -102,7 +102,8 @@ fn line_of_high(family: Family, top: Height, near: u32, far: u32) -> u32
     requires near { IsLine family near }
     requires far { IsLine family far }
     ensures line { IsLine family result }
-    ensures value { ((family.eye ≤ℤ top) × (result ≡ near)) ⊎ ((top <ℤ family.eye) × (result ≡ far)) }
+    ensures value { ((family.eye ≤ℤ top) × (result ≡ near))
+        ⊎ ((top <ℤ family.eye) × (result ≡ far)) }
 {
     if top < family.eye { far } else { near }
 }

@@ -1,14 +1,14 @@
 //! The least target heights of one tile, lowered observer by observer.
 //!
 //! Walks raise one target after the other; a sweep raises those of all cells together. A sweep
-//! costs about the same on all ground, and less than walks unless the tile is small or in full view.
+//! costs about the same on all ground, and less than walks unless a tile is small or in full view.
 ghost use Rattle.std.specs.Prelude.{◌≡◌, ℕ, ◌+◌, ◌*◌, ◌<◌, ◌≤◌, false, [], length, None, IfOk, OnOk, slice_index, slice_index_or};
 ghost use Rattle.terrain.specs.Neighbours.{IsInside};
-ghost use Rattle.tiles.specs.Cutting.{AreBounds, IsCutting};
+ghost use Rattle.tiles.specs.Cutting.{AreBounds, IsCutting, place_in};
 ghost use Rattle.tile_maps.specs.Maps.{IsMadeUpTo};
 ghost use Rattle.sightlines.specs.Sight.{highest_eye, place_of};
 ghost use Rattle.sight.specs.Rise.{IsRiseAt};
-ghost use Rattle.sight.specs.Lowered.{IsLowered, limit_of, lowered_to, place_in};
+ghost use Rattle.sight.specs.Lowered.{AreLow, AreLowered, IsLowered, limit_of, lowered_to};
 ghost use Rattle.sight.specs.Raising.{IsCandidate};
 
 use crate::flagging::{SAMPLES, sample_at};
@@ -31,7 +31,7 @@ const SHORT_CROSSINGS: u32 = 16 * SAMPLES;
 fn lower_to(flags: &[bool], targets: &[u32], values: &mut [Count])
     requires flags { length flags.now ≡ length values.old }
     requires targets { length targets.now ≡ length values.old }
-    requires low { (k : ℕ) → limit_of (slice_index_or values.old k None) ≤ highest_eye + 1 }
+    requires low { AreLow values.old }
     ensures { (k : ℕ) → k < length values.old → slice_index_or values.new k None
         ≡ lowered_to (slice_index_or flags.now k false) (slice_index targets.now k)
         (slice_index_or values.old k None) }
@@ -92,17 +92,16 @@ impl<'a> ViewshedInput<'a> {
         }
     }
 
-    /// Lowers a tile's values as [`lower_values`](Self::lower_values) does, by walks.
+    /// Lowers each value of a tile, by walks, to the least height at which its cell is seen.
     fn lower_by_walks(&self, observer: &Observer, bounds: Bounds, values: &mut [Count])
         requires lawful { IsCutting self.now.tiling.now }
         requires inside { AreBounds self.now.tiling.now bounds }
         requires observer { IsInside self.now.grid.now.terrain (place_of observer.now) }
         requires eye { observer.now.eye ≤ highest_eye }
         requires size { length values.old ≡ bounds.rows * bounds.cols }
-        requires low { (k : ℕ) → limit_of (slice_index_or values.old k None) ≤ highest_eye + 1 }
-        ensures { (k : ℕ) → k < length values.old → IsLowered self.now.grid.now.terrain observer.now
-            self.now.radius (place_in bounds k) (slice_index_or values.old k None)
-            (slice_index_or values.new k None) }
+        requires low { AreLow values.old }
+        ensures { AreLowered self.now.grid.now.terrain observer.now self.now.radius bounds
+            values.old values.new }
     {
         let mut walked = WalkCache::none();
         for index in 0..values.len() {
@@ -154,32 +153,7 @@ impl<'a> ViewshedInput<'a> {
         Ok(flags)
     }
 
-    /// Lowers a tile's values as [`lower_values`](Self::lower_values) does, by sweeps.
-    fn lower_by_sweeps(
-        &self,
-        alloc: Global,
-        observer: &Observer,
-        bounds: Bounds,
-        values: &mut [Count],
-    ) -> Result<(), AllocError>
-        requires lawful { IsCutting self.now.tiling.now }
-        requires inside { AreBounds self.now.tiling.now bounds }
-        requires observer { IsInside self.now.grid.now.terrain (place_of observer.now) }
-        requires eye { observer.now.eye ≤ highest_eye }
-        requires size { length values.old ≡ bounds.rows * bounds.cols }
-        requires low { (k : ℕ) → limit_of (slice_index_or values.old k None) ≤ highest_eye + 1 }
-        ensures { OnOk result ((k : ℕ) → k < length values.old →
-            IsLowered self.now.grid.now.terrain observer.now self.now.radius (place_in bounds k)
-            (slice_index_or values.old k None) (slice_index_or values.new k None)) }
-    {
-        let flags = self.candidates(alloc, observer, bounds)?;
-        let mut targets = vec![in alloc; 0; flags.len()]?;
-        self.raise_blocked(alloc, observer, bounds, &flags, &mut targets)?;
-        lower_to(&flags, &targets, values);
-        Ok(())
-    }
-
-    /// Lowers each value of a tile to the least height at which one more observer sees its cell.
+    /// Lowers each value of a tile by walks or sweeps, whichever are likely to be faster.
     fn lower_values(
         &self,
         alloc: Global,
@@ -192,16 +166,19 @@ impl<'a> ViewshedInput<'a> {
         requires observer { IsInside self.now.grid.now.terrain (place_of observer.now) }
         requires eye { observer.now.eye ≤ highest_eye }
         requires size { length values.old ≡ bounds.rows * bounds.cols }
-        requires low { (k : ℕ) → limit_of (slice_index_or values.old k None) ≤ highest_eye + 1 }
-        ensures { OnOk result ((k : ℕ) → k < length values.old →
-            IsLowered self.now.grid.now.terrain observer.now self.now.radius (place_in bounds k)
-            (slice_index_or values.old k None) (slice_index_or values.new k None)) }
+        requires low { AreLow values.old }
+        ensures { OnOk result (AreLowered self.now.grid.now.terrain observer.now self.now.radius
+            bounds values.old values.new) }
     {
         let is_large = bounds.rows.min(bounds.cols) >= SWEPT_SIDE;
-        if is_large && !self.are_walks_short(observer, bounds) {
-            return self.lower_by_sweeps(alloc, observer, bounds, values);
+        if !is_large || self.are_walks_short(observer, bounds) {
+            self.lower_by_walks(observer, bounds, values);
+            return Ok(());
         }
-        self.lower_by_walks(observer, bounds, values);
+        let flags = self.candidates(alloc, observer, bounds)?;
+        let mut targets = vec![in alloc; 0; flags.len()]?;
+        self.raise_blocked(alloc, observer, bounds, &flags, &mut targets)?;
+        lower_to(&flags, &targets, values);
         Ok(())
     }
 

@@ -163,9 +163,9 @@ struct TileTops<'a> {
     tiles: &'a TileBlocks<'a>,
     lists: &'a [Vec<Cell>],
     ghost count: { length lists.now ≡ tile_count tiles.now.tiling.now },
-    ghost listed: { AreResults (λ tile (list : Vec (Option ℤ) Global). IsTileTops tiles.now.tiling.now
-        (ground_of tiles.now.blocks.now.cols tiles.now.blocks.now.rows
-        tiles.now.blocks.now.cells.now) tile list.items)
+    ghost listed: { AreResults (λ tile (list : Vec (Option ℤ) Global).
+        IsTileTops tiles.now.tiling.now (ground_of tiles.now.blocks.now.cols
+        tiles.now.blocks.now.rows tiles.now.blocks.now.cells.now) tile list.items)
         (tile_count tiles.now.tiling.now) lists.now } by { Prim.hlevel props },
 }
 

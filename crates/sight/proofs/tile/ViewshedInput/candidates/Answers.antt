@@ -2,7 +2,7 @@ use Rattle.std.proofs.Common.{arith, sym, subst, inl, inr, ◌∙◌, ◌<◌, �
 use Rattle.std.proofs.lemmas.Bool.{cases_eq}
 use Rattle.std.proofs.lemmas.List.{length-set, get_or-set_same, get_or-set_other}
 use Rattle.terrain.specs.declared.place.Place.{Place}
-use Rattle.sight.specs.Lowered.{place_in}
+use Rattle.tiles.specs.Cutting.{place_in}
 use Rattle.sight.specs.Raising.{IsCandidate}
 use Rattle.sight.proofs.tile.ViewshedInput.candidates.Goals as goal
 

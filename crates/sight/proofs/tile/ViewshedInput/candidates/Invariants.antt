@@ -1,5 +1,5 @@
 use Rattle.std.proofs.Common.{◌≡◌, ℕ, ◌*◌, ◌<◌, false, get_or, length}
-use Rattle.sight.specs.Lowered.{place_in}
+use Rattle.tiles.specs.Cutting.{place_in}
 use Rattle.sight.specs.Raising.{IsCandidate}
 use Rattle.sight.proofs.tile.ViewshedInput.candidates.Given as goal
 

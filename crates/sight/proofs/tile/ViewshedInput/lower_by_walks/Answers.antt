@@ -3,7 +3,8 @@ use Rattle.std.proofs.lemmas.Bool.{cases_eq}
 use Rattle.std.proofs.lemmas.List.{get_or_default, get_or-set_same, get_or-set_other}
 use Rattle.terrain.specs.declared.place.Place.{Place}
 use Rattle.sightlines.specs.Sight.{highest_eye}
-use Rattle.sight.specs.Lowered.{IsLowered, limit_of, place_in}
+use Rattle.tiles.specs.Cutting.{place_in}
+use Rattle.sight.specs.Lowered.{IsLowered, limit_of}
 use Rattle.sight.proofs.tile.ViewshedInput.lower_by_walks.Goals as goal
 
 pub lowered-requires-clause-value : goal.lowered-requires-clause-value

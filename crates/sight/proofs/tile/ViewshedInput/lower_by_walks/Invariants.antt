@@ -1,5 +1,6 @@
 use Rattle.std.proofs.Common.{◌≡◌, ℕ, ◌<◌, ◌≤◌, get_or, None}
-use Rattle.sight.specs.Lowered.{IsLowered, place_in}
+use Rattle.tiles.specs.Cutting.{place_in}
+use Rattle.sight.specs.Lowered.{IsLowered}
 use Rattle.sight.proofs.tile.ViewshedInput.lower_by_walks.Given as goal
 
 abbrev pub invariant-loop-index : goal.invariant-loop-index

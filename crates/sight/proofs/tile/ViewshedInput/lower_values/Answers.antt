@@ -2,11 +2,13 @@ use Rattle.std.proofs.Common.{arith, ap, subst, ◌∙◌, ◌≡◌, ◌*◌, �
 use Rattle.std.proofs.lemmas.List.{with_items_is}
 use Rattle.sightlines.specs.Sight.{is_open}
 use Rattle.sight.specs.Flags.{flag_at}
-use Rattle.sight.specs.Lowered.{lowered_to, place_in}
+use Rattle.tiles.specs.Cutting.{place_in}
+use Rattle.tiles.proofs.TileOrder.{index_in-place_in}
+use Rattle.sight.specs.Lowered.{lowered_to}
 use Rattle.sight.specs.Raising.{IsRaised}
-use Rattle.sight.proofs.Indexed.{place_at, place_inside}
+use Rattle.sight.proofs.Indexed.{place_inside}
 use Rattle.sight.proofs.Swept.{swept_lowered}
-use Rattle.sight.proofs.tile.ViewshedInput.lower_by_sweeps.Goals as goal
+use Rattle.sight.proofs.tile.ViewshedInput.lower_values.Goals as goal
 
 pub returns : goal.returns
 returns c k less =
@@ -18,7 +20,7 @@ returns c k less =
     let old = c.in_ok-targets.targets in
     let targets = c.raise_blocked.new.targets in
     let below : k < b.rows * b.cols = omega (arith, less, c.requires.size) in
-    let at = place_at b k below in
+    let at = index_in-place_in b k in
     let whole = with_items_is old targets
     (omega (arith, c.raise_blocked.auto.targets, c.deref_mut.ensures.len, old.ok.0)) in
     let raised : get_or flags k false ≡ true → IsRaised (λ h. not (is_open t o (place_in b k) h)) 0
