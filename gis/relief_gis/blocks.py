@@ -14,9 +14,23 @@ Result = TypeVar("Result")
 # What a block and its intermediate arrays need stays in a processor's cache.
 CELLS = 1 << 15
 MOST_THREADS = 8
+# Arrays up to this size, of blocks and strips, are freed for reuse.
+KEPT = (1 << 24) - (1 << 16)
 # How many calls of `Behind` wait at most.
 MOST_BEHIND = 1
 THREADS = min(len(os.sched_getaffinity(0)) if hasattr(os, "sched_getaffinity") else os.cpu_count() or 1, MOST_THREADS)
+
+
+def _keep_freed() -> None:
+    """Lets the C library keep what is freed, in place of returning it to the system, for arrays of up to KEPT bytes.
+
+    Of glibc the greatest block that was freed sets the size from which blocks are the system's own. New pages cost more
+    than what is computed in them: they double the time in which a map is read.
+    """
+    np.empty(KEPT, np.uint8)
+
+
+_keep_freed()
 
 
 def row_blocks(shape: Tuple[int, ...]) -> List[slice]:

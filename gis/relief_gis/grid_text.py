@@ -29,6 +29,18 @@ TakeRows = Callable[[np.ndarray, int], None]
 Source = Any
 # Words of so many digits are computed with half the bytes.
 NARROW_DIGITS = 9
+# Of so few heights the words are worked out once, if they are no longer than this.
+MOST_TABLE, MOST_WIDTH = 1 << 18, 8
+# Numbers of more digits are none of the program's. So many are computed at once.
+MOST_DIGITS, DIGITS = 16, 7
+# Of eight bytes before and behind DIGITS digits and a letter that is none: the bits of the digits by how far it is from
+# the letter before, 1 where there is none between.
+DIGIT_BITS = np.array([0x0F0F0F0F0F0F0F >> 8 * (DIGITS - it) << 8 * (DIGITS - it) if it else 0
+                       for it in (0, *range(DIGITS + 1))], "<u8")
+# Factors by which pairs, and pairs of pairs, become one number, and the bits of pairs.
+PAIRS, FOURS, PAIR_BITS = np.uint64(10 << 8 | 1), np.uint64(100 << 16 | 1), np.uint64(0x00FF00FF00FF00FF)
+# So many bytes lie before those of a text of which numbers are taken.
+AHEAD = 8
 
 
 def _table(count: int, first: bytes, last: bytes) -> np.ndarray:
@@ -59,13 +71,32 @@ def write_grid(heights: Heights, file: IO[bytes]) -> None:
     file.write(f"ncols {cols}\nnrows {rows}\nxllcorner 0\nyllcorner 0\ncellsize 1\nNODATA_value {nodata}\n".encode())
     digits = len(str(max(abs(low), abs(nodata))))
     is_signed = low < 0
+    table = _table_of(low, nodata, digits, is_signed) if nodata - low < min(MOST_TABLE, rows * cols) else None
 
     def text_of(block: slice) -> np.ndarray:
         units, valid = heights.rows(block), heights.valid[block]
-        return _words(units if valid.all() else np.where(valid, units, heights.dtype.type(nodata)), digits, is_signed)
+        known = units if valid.all() else np.where(valid, units, heights.dtype.type(nodata))
+        if table is None:
+            return _words(known, digits, is_signed)
+        return _lines(table.take(known - heights.dtype.type(low), mode="clip"))
 
     for text in in_order(text_of, row_blocks(heights.shape)):
         file.write(text.data)
+
+
+def _table_of(low: int, high: int, digits: int, is_signed: bool) -> Optional[np.ndarray]:
+    """The words of all heights from one to another, a number for each; None: they are too long for one."""
+    words = _words(np.arange(low, high + 1).reshape(1, -1), digits, is_signed)
+    words[:, -1] = SPACE
+    width = words.size // (high - low + 1)
+    return words.view(f"u{width}").ravel() if width <= MOST_WIDTH else None
+
+
+def _lines(words: np.ndarray) -> np.ndarray:
+    """The bytes of rows of words, a line feed the last of each."""
+    letters = words.view(np.uint8).reshape(len(words), -1)
+    letters[:, -1] = LINE_FEED
+    return letters
 
 
 def _words(units: np.ndarray, digits: int, is_signed: bool) -> np.ndarray:
@@ -89,9 +120,7 @@ def _words(units: np.ndarray, digits: int, is_signed: bool) -> np.ndarray:
     if is_signed:
         rest += (units < 0) * kind(SIGNED_DIGITS.size // 2)
     text[..., 0] = tables[-1].take(rest, mode="clip")
-    letters = text.view(np.uint8).reshape(len(units), -1)
-    letters[:, -1] = LINE_FEED
-    return letters
+    return _lines(text)
 
 
 def read_grid(file: Source, dtype: "np.typing.DTypeLike" = np.int64, wanted: Optional[Tuple[int, ...]] = None,
@@ -211,51 +240,68 @@ def _shape(file: Source) -> Tuple[int, int]:
 
 
 def _pieces(file: Source) -> Iterator[np.ndarray]:
-    """The bytes of a text in pieces of whole words."""
+    """The bytes of a text in pieces of whole words, each behind AHEAD further bytes."""
     rest = np.empty(0, np.uint8)
     while True:
-        text = np.empty(rest.size + PIECE, np.uint8)
-        text[:rest.size] = rest
-        count = file.readinto(text[rest.size:].data)
+        text = np.empty(AHEAD + rest.size + PIECE, np.uint8)
+        words = text[AHEAD:]
+        words[:rest.size] = rest
+        count = file.readinto(words[rest.size:].data)
         if not count:
             break
-        text = text[:rest.size + count]
+        words = words[:rest.size + count]
         # Behind the last whole word.
-        last = text[-MOST_WORD - 1:].tobytes()
-        end = text.size - len(last) + max(last.rfind(b" "), last.rfind(b"\n")) + 1
-        rest = text[end:]
+        last = words[-MOST_WORD - 1:].tobytes()
+        end = words.size - len(last) + max(last.rfind(b" "), last.rfind(b"\n")) + 1
+        rest = words[end:]
         if rest.size > MOST_WORD:
             raise InputError(NO_NUMBERS)
         if end:
-            yield text[:end]
+            yield text[:AHEAD + end]
     if rest.size:
         raise InputError("relief wrote a text that is cut off")
 
 
 def _numbers(text: np.ndarray) -> np.ndarray:
-    """The numbers of words, each of which a space or a line feed ends: two digits at a time, from the last ones."""
-    ends = np.flatnonzero(text <= SPACE)
-    lengths = ends.copy()
-    lengths[1:] -= ends[:-1] + 1
-    is_digit = text >= ZERO
-    # Of a space and a sign the digit is 0.
-    digits = (text - np.uint8(ZERO)) * is_digit
-    signs = np.flatnonzero(text == MINUS)
-    signed = np.searchsorted(ends, signs)
-    if (lengths.min() < 1 or digits.max() > 9 or np.any(lengths[signed] < 2)
-            or np.any(signs != ends[signed] - lengths[signed])
-            or np.count_nonzero(is_digit) + ends.size + signs.size != text.size):
+    """The numbers of words, each of which a space or a line feed ends, behind AHEAD further bytes."""
+    words = text[AHEAD:]
+    # Where digits end.
+    ends = np.flatnonzero(words - np.uint8(ZERO) > 9)
+    letters = words.take(ends, mode="clip")
+    is_minus = letters == MINUS
+    steps = np.empty_like(ends)
+    steps[0] = ends[0] + 1
+    np.subtract(ends[1:], ends[:-1], out=steps[1:])
+    if (np.count_nonzero(letters <= SPACE) + np.count_nonzero(is_minus) != ends.size or steps.max() > MOST_DIGITS + 1
+            or not np.array_equal(steps == 1, is_minus) or np.any(is_minus[1:] & is_minus[:-1])):
         raise InputError(NO_NUMBERS)
-    # Of the two bytes before each.
-    pairs = np.zeros_like(digits)
-    pairs[2:] = digits[:-2] * np.uint8(10)
-    pairs[1:] += digits[:-1]
-    width = int(lengths.max())
-    numbers = pairs.take(ends).astype(np.int32 if width <= NARROW_DIGITS else np.int64)
-    for place in range(2, width, 2):
-        is_long = lengths > place
-        chosen = slice(None) if 2 * np.count_nonzero(is_long) > ends.size else np.flatnonzero(is_long)
-        pair = pairs.take(ends[chosen] - place, mode="clip") * is_long[chosen]
-        numbers[chosen] += np.multiply(pair, 10**place, dtype=numbers.dtype)
-    numbers[signed] *= -1
+    numbers = _last_digits(text, ends, steps)
+    for place in range(DIGITS, int(steps.max()) - 1, DIGITS):
+        longer = np.flatnonzero(steps > place + 1)
+        numbers = numbers.astype(np.int64)
+        numbers[longer] += _last_digits(text, ends[longer] - place, steps[longer] - place).astype(np.int64) * 10**place
+    if is_minus.any():
+        numbers[1:] *= 1 - 2 * is_minus[:-1].view(np.int8)
+        numbers = numbers[~is_minus]
+    return numbers
+
+
+def _last_digits(text: np.ndarray, ends: np.ndarray, steps: np.ndarray) -> np.ndarray:
+    """The numbers of the last DIGITS digits before letters, by machine's words of eight bytes.
+
+    Args:
+        text: AHEAD bytes, and those to which ends refer.
+        ends: the places of letters.
+        steps: how far each lies behind the letter before it, from 1 on.
+    """
+    # The eight bytes that end with each letter.
+    found = np.ndarray(text.size - AHEAD, "<u8", text, AHEAD - DIGITS, (1,))[ends]
+    found &= DIGIT_BITS.take(steps, mode="clip")
+    found *= PAIRS
+    found &= PAIR_BITS
+    found *= FOURS
+    # Of four numbers of 16 bits the second has three digits, and the last one four.
+    fours = found.view("<u2")
+    numbers = np.multiply(fours[1::4], 10**4, dtype=np.int32)
+    numbers += fours[3::4]
     return numbers

@@ -176,8 +176,9 @@ def _from_floats(values: np.ndarray, valid: np.ndarray, decimals: int, ends: Tup
         part = rows_of(values, valid, rows)
         found, rest = round_floats(part, factor)
         units[...] = found
+        found /= factor
         # A float32 that is the nearest to a decimal stands for it, and nothing is rounded.
-        return float(max(rest.max(), -rest.min())), np.array_equal((found / factor).astype(values.dtype), part)
+        return float(max(rest.max(), -rest.min())), np.array_equal(found.astype(values.dtype), part)
 
     (least, most), _ = round_floats(np.array([low, high], values.dtype), factor)
     return Heights(valid, decimals, (int(least), int(most)), dtype, convert)

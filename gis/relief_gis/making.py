@@ -226,8 +226,10 @@ def edge_cells(valid: np.ndarray) -> np.ndarray:
     """
     def edges(rows: slice) -> np.ndarray:
         top, bottom = max(rows.start - 1, 0), min(rows.stop + 1, len(valid))
-        beyond = (rows.start - 1 < top, bottom < rows.stop + 1), (1, 1)
-        return valid[rows] & any_of_nine(np.pad(~valid[top:bottom], beyond, constant_values=True))
+        empty = np.ones((rows.stop - rows.start + 2, valid.shape[1] + 2), bool)
+        first = top - (rows.start - 1)
+        np.logical_not(valid[top:bottom], out=empty[first:first + bottom - top, 1:-1])
+        return valid[rows] & any_of_nine(empty)
 
     return array_of(edges, valid.shape, bool)
 

@@ -23,13 +23,16 @@ def round_floats(values: np.ndarray, factor: int) -> Tuple[np.ndarray, np.ndarra
     Returns:
         floats of the shape of the values, of 64 bits or more.
     """
-    short, values = values.dtype.itemsize < 8, values.astype(np.result_type(values, np.float64), copy=False)
+    if values.dtype.itemsize < 8:
+        # Their products are exact in 64 bits.
+        products = values.astype(np.float64)
+        products *= factor
+        units = np.rint(products)
+        products -= units
+        return units, products
     products = values * factor
     units = np.rint(products)
     rest = products - units
-    if short:
-        # Their products are exact in 64 bits.
-        return units, rest
     # What the products lost when they were rounded (Dekker 1971): the factor is short, so halves of the values will do.
     splitter = values.dtype.type(2 ** ((np.finfo(values.dtype).nmant + 2) // 2) + 1)
     high = splitter * values
