@@ -11,14 +11,16 @@ import numpy as np
 Item = TypeVar("Item")
 Result = TypeVar("Result")
 
-# What a block and its intermediate arrays need stays in a processor's cache.
-CELLS = 1 << 15
+# A call of numpy takes so long that threads seldom wait for Python's lock, and not all of a processor's cache.
+CELLS = 1 << 16
 MOST_THREADS = 8
 # Arrays up to this size, of blocks and strips, are freed for reuse.
-KEPT = (1 << 24) - (1 << 16)
+KEPT = 5 << 19
 # How many calls of `Behind` wait at most.
 MOST_BEHIND = 1
-THREADS = min(len(os.sched_getaffinity(0)) if hasattr(os, "sched_getaffinity") else os.cpu_count() or 1, MOST_THREADS)
+PROCESSORS = len(os.sched_getaffinity(0)) if hasattr(os, "sched_getaffinity") else os.cpu_count() or 1
+# One is left to the program and to what is serial.
+THREADS = max(min(PROCESSORS - 1, MOST_THREADS), 1)
 
 
 def _keep_freed() -> None:
@@ -68,14 +70,18 @@ class Behind:
         if len(self._waiting) > MOST_BEHIND:
             self._waiting.popleft().result()
 
+    def finish(self) -> None:
+        """Waits until all calls are done; raises the first error of one."""
+        while self._waiting:
+            self._waiting.popleft().result()
+
     def __enter__(self) -> Behind:
         return self
 
     def __exit__(self, kind: Optional[Type[BaseException]], *_: object) -> None:
         self._pool.shutdown()
         if kind is None:
-            for call in self._waiting:
-                call.result()
+            self.finish()
 
 
 def for_rows(work: Callable[[slice], Result], shape: Tuple[int, ...]) -> List[Result]:

@@ -9,6 +9,7 @@ from typing import TYPE_CHECKING, Callable, Dict, Optional, Sequence, Type
 import numpy as np
 
 from . import edges, styles
+from .blocks import Behind
 from .geotiff import GeoTiff, remove_sidecars, write_geotiff
 from .grid_text import STRIP
 from .heights import Heights
@@ -58,6 +59,7 @@ class Draft:
         # Further files: their names, and what writes each under another name.
         self.also: Dict[str, Callable[[str], None]] = {}
         self.file: Optional[GeoTiff] = None
+        self.puts: Optional[Behind] = None
         self.most, self.written = 0.0, 0
         self.numbers = styles.Numbers()
         self.style: Optional[str] = None
@@ -75,6 +77,8 @@ class Draft:
                             self.bands, self.metadata, styles.color_table(self.job.map),
                             # Basins take half the time to compress, and 4 % more bytes.
                             has_names=styles.needs_numbers(self.job.map))
+        # A strip is compressed while the next one is worked out.
+        self.puts = Behind(self.file.put)
 
     @property
     def needs_all(self) -> bool:
@@ -83,11 +87,11 @@ class Draft:
 
     def put(self, found: np.ndarray, row: int = 0, band: int = 1) -> None:
         """Writes rows of what the program wrote, from a row on, as soon as they are there."""
-        if self.result is None or self.file is None:
+        if self.result is None or self.puts is None:
             return
         for first in range(0, len(found), STRIP):
             array = self.result.rows(found[first:first + STRIP], row + first)
-            self.file.put(row + first, array, band)
+            self.puts(row + first, array, band)
             self.written = max(self.written, row + first + len(array))
             if styles.needs_most(self.job.map):
                 self.most = max(self.most, float(array.max()))
@@ -103,7 +107,8 @@ class Draft:
 
     def write(self, names: Callable[[str], str]) -> None:
         """Writes the map, its style and further files, each under another name."""
-        assert self.file is not None
+        assert self.file is not None and self.puts is not None
+        self.puts.finish()
         self.style = styles.style(self.job.map, self.numbers, self.most, self.heights.decimals)
         self.keeps_style = has_foreign_style(self.job.target)
         self.file.save(names(self.job.target))
@@ -136,7 +141,8 @@ class Draft:
 
     def __exit__(self, kind: Optional[Type[BaseException]], error: Optional[BaseException],
                  trace: Optional[TracebackType]) -> None:
-        if self.file is not None:
+        if self.file is not None and self.puts is not None:
+            self.puts.__exit__(kind)
             self.file.close()
 
 

@@ -8,6 +8,7 @@ from typing import Dict, Mapping, Optional, Sequence, Tuple
 import numpy as np
 from osgeo import gdal
 
+from .blocks import PROCESSORS
 from .errors import DeviceError
 from .frame import Frame
 from .gdal_errors import raised_errors
@@ -16,6 +17,8 @@ from .grid_text import STRIP
 SIDECARS = (".aux.xml", ".ovr", ".msk")
 # Level 6 takes two to five times as long as 1 and saves at most a sixth of the bytes.
 LAYOUT = ["TILED=YES", "COMPRESS=DEFLATE", "ZLEVEL=1", "BIGTIFF=IF_SAFER"]
+# Threads that compress: more of them keep those from Python's lock that read.
+GDAL_THREADS = max(PROCESSORS // 2, 1)
 # How many bytes are copied at once. GDAL's tiles have a side of STRIP.
 PIECE = 1 << 20
 
@@ -49,7 +52,7 @@ class GeoTiff:
                  metadata: Mapping[str, str], colors: Optional[Mapping[int, Color]] = None,
                  has_names: bool = False) -> None:
         self.memory = memory_name("tif")
-        options = [*LAYOUT, f"PREDICTOR={1 if has_names else _predictor(dtype)}", "NUM_THREADS=ALL_CPUS"]
+        options = [*LAYOUT, f"PREDICTOR={1 if has_names else _predictor(dtype)}", f"NUM_THREADS={GDAL_THREADS}"]
         with raised_errors():
             driver = gdal.GetDriverByName("GTiff")
             self.dataset = driver.Create(self.memory, frame.cols, frame.rows, len(descriptions), _gdal_type(dtype),

@@ -16,8 +16,8 @@ from .heights import Heights
 
 HEADER_LINES = 6
 ZERO, MINUS, SPACE, LINE_FEED = b"0- \n"
-# What is read at once, in bytes, so that its numbers stay in a processor's cache; how many rows are given on at once.
-PIECE = 1 << 18
+# What is read at once, in bytes, for the same reason as blocks; how many rows are given on at once.
+PIECE = 1 << 19
 STRIP = 256
 # Of a header, whose first word is ncols.
 FIRST_LETTER = b"n"
@@ -27,6 +27,8 @@ NO_NUMBERS = "relief wrote words that are no whole numbers"
 TakeRows = Callable[[np.ndarray, int], None]
 # What texts are read from: a binary file, or a part of one.
 Source = Any
+# What they are written to: what has `write` of one.
+Target = Any
 # Words of so many digits are computed with half the bytes.
 NARROW_DIGITS = 9
 # Of so few heights the words are worked out once, if they are no longer than this.
@@ -59,7 +61,7 @@ THREE_DIGITS = _table(1_000, b"", b" ")
 SIGNED_DIGITS = np.concatenate([_table(1_000, sign, b"") for sign in (b"0", b"-")])
 
 
-def write_grid(heights: Heights, file: IO[bytes]) -> None:
+def write_grid(heights: Heights, file: Target) -> None:
     """Writes heights as a grid text, with cells of size 1 at the origin.
 
     Args:

@@ -37,6 +37,8 @@ class Heights:
     def __init__(self, valid: np.ndarray, decimals: int, ends: Tuple[int, int], dtype: np.dtype,
                  convert: Convert) -> None:
         self.valid, self.decimals, self.ends = valid, decimals, ends
+        # Whether nobody asks for the units once the program has them.
+        self.is_read_once = False
         self._units = np.empty(valid.shape, dtype)
         self._blocks = row_blocks(valid.shape)
         self._is_known = bytearray(len(self._blocks))
@@ -82,20 +84,24 @@ class Heights:
 
     def part(self, cut: Tuple[slice, slice]) -> Heights:
         """The heights of some rows and columns."""
+        first, last, _ = cut[0].indices(self.shape[0])
+        for_rows(lambda rows: self._work_out(slice(first + rows.start, first + rows.stop)), (last - first, self.shape[1]))
         return Heights.of_units(self.rows(cut[0])[:, cut[1]], self.valid[cut], self.decimals)
 
     def drop_units(self) -> None:
         """Frees the units, where nobody asks for them again."""
-        self._units, self._convert = np.empty((0, 0), self.dtype), None
+        self._convert = None
+        self._units = np.empty((0, 0), self.dtype)
 
     def _work_out(self, rows: slice) -> None:
         """Works out the units of rows. Blocks that two threads ask for may be worked out twice, to the same units."""
         step = self._blocks[0].stop
         # From the last one on: the program takes them from the first one on.
         for at in reversed(range(rows.start // step, min(-(-rows.stop // step), len(self._blocks)))):
-            convert, block = self._convert, self._blocks[at]
+            # In this order: units that were freed are not worked out.
+            units, convert, block = self._units, self._convert, self._blocks[at]
             if convert is not None and not self._is_known[at]:
-                self._roundings.append(convert(block, self._units[block]))
+                self._roundings.append(convert(block, units[block]))
                 self._is_known[at] = True
         if all(self._is_known):
             # It keeps what was read.

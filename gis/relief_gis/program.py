@@ -9,6 +9,7 @@ import queue
 import re
 import shutil
 import subprocess
+import time
 from concurrent.futures import FIRST_COMPLETED, Future, ThreadPoolExecutor, wait
 from dataclasses import dataclass
 from typing import IO, Callable, Iterator, List, Optional, Sequence, Set, Tuple
@@ -29,8 +30,10 @@ SINK_FAULTS = range(46, 49)
 SECONDS_BETWEEN_LOOKS = 0.1
 # What a pipe is to hold, in bytes: through the system's 64 KiB both ends mostly wait for each other. Python names the
 # request from 3.10 on.
-PIPE_BYTES = 1 << 20
+PIPE_BYTES, LEAST_PIPE_BYTES = 1 << 20, 1 << 16
 F_SETPIPE_SZ = 1031
+# Of a program that is as fast as this, less than a pipe goes through it while it is left alone.
+BYTES_A_SECOND = 2 << 30
 VARIABLE = "RELIEF"
 
 
@@ -173,30 +176,65 @@ class Program:
             raise DeviceError(f"{self.path} could not be started: {error.strerror}") from error
         finally:
             os.close(errors)
-        _widen(process.stdin, process.stdout)
         return process, open(ours, "rb", 0)
 
 
-def _widen(*pipes: Optional[IO[bytes]]) -> None:
-    """Lets pipes hold more, where the system allows it."""
-    for pipe in pipes:
+class _Pipe:
+    """Our end of a pipe, which moves much at a time: a program reads and writes little, and each end would wake the other
+    for each page.
+
+    Where a pipe is full, or has less than is wanted, it is left alone for a moment.
+    """
+
+    def __init__(self, file: IO[bytes]) -> None:
+        self._file = file
+        size = LEAST_PIPE_BYTES
+        # Where the system does not allow it a pipe holds less.
         with contextlib.suppress(OSError):
-            fcntl.fcntl(pipe, F_SETPIPE_SZ, PIPE_BYTES)
+            size = fcntl.fcntl(file, F_SETPIPE_SZ, PIPE_BYTES)
+        self._pause = size / BYTES_A_SECOND
+        if file.writable():
+            os.set_blocking(file.fileno(), False)
+
+    def write(self, data: bytes) -> None:
+        """Writes all bytes of an array or of a text."""
+        rest = memoryview(data).cast("B")
+        while rest:
+            try:
+                rest = rest[os.write(self._file.fileno(), rest):]
+            except BlockingIOError:
+                time.sleep(self._pause)
+
+    def readline(self, most: int) -> bytes:
+        """A line, of at most so many bytes."""
+        return self._file.readline(most)
+
+    def readinto(self, piece: memoryview) -> int:
+        """Fills a piece; how many bytes it has, fewer at the end alone."""
+        filled = 0
+        while count := self._file.readinto1(piece[filled:]):
+            filled += count
+            if filled == len(piece):
+                break
+            time.sleep(self._pause)
+        return filled
 
 
 def _feed(heights: Heights, file: IO[bytes]) -> None:
     """Writes heights to the program, which reads all of them, or refuses and says why."""
     try:
         with file:
-            write_grid(heights, file)
+            write_grid(heights, _Pipe(file))
     except BrokenPipeError:
         pass
+    if heights.is_read_once:
+        heights.drop_units()
 
 
 def _collect(file: IO[bytes], wanted: Sequence[Wanted], shape: Tuple[int, ...]) -> List[np.ndarray]:
     """Reads the maps that the program writes; to the end in any case, so that the program ends too."""
     try:
-        return read_grids(file, wanted, shape)
+        return read_grids(_Pipe(file), wanted, shape)
     finally:
         while file.read(PIECE):
             pass

@@ -111,8 +111,12 @@ def _values_of_units(heights: Heights, dtype: np.dtype, nodata: Optional[float])
     """Rows of units as heights of a type, with NODATA."""
     missing = dtype.type(0 if nodata is None else nodata)
 
+    # Units and their quotients of 32 bits are those of 64 bits, rounded: these have more than twice the digits.
+    divisor = (np.float32 if dtype == np.float32 else np.float64)(10**heights.decimals)
+
     def values(cells: np.ndarray, rows: slice) -> np.ndarray:
-        plain = (cells if heights.decimals == 0 else cells / 10.0**heights.decimals).astype(dtype, copy=False)
+        plain = cells if heights.decimals == 0 else np.divide(cells, divisor, dtype=divisor.dtype, casting="unsafe")
+        plain = plain.astype(dtype, copy=False)
         return plain if heights.valid[rows].all() else np.where(heights.valid[rows], plain, missing)
 
     return values

@@ -46,8 +46,6 @@ def run_together(terrain: Terrain, heights: Heights, jobs: Sequence[Job], progra
         run = _Run(drafts, requests, terrain, heights, program, caller)
         found = run.made()
         ahead.finish()
-        if not run.needs_units(found):
-            heights.drop_units()
         for draft in drafts:
             run.end(draft, found, gauges)
         caller.check()
@@ -88,10 +86,11 @@ class _Run:
         is_told = self.terrain.is_part and job.map in edges.TOLD_MAPS
         return is_told or any((job.uncertain, job.polygons, job.lines))
 
-    def needs_units(self, found: Dict[str, np.ndarray]) -> bool:
-        """Whether heights are needed when the maps of the program are there."""
-        return any(draft.needs_all or draft.job.map == "depth" or draft.job.polygons is not None
-                   or (self.has_more(draft.job) and "flow" not in found) for draft in self.drafts)
+    def needs_units(self, names: Sequence[str]) -> bool:
+        """Whether heights are needed again once the program has them to make some maps."""
+        return len(self.requests) > 1 or any(
+            draft.needs_all or draft.job.map == "depth" or draft.job.polygons is not None
+            or (self.has_more(draft.job) and "flow" not in names) for draft in self.drafts)
 
     def made(self) -> Dict[str, np.ndarray]:
         """What the program wrote for its maps, by their names, where it has to be kept."""
@@ -99,6 +98,7 @@ class _Run:
         takes_codes = any(self.has_more(draft.job) for draft in self.drafts)
         if takes_codes and "flow" not in names and (len(names) > 1 or self.program.has_map("maps")):
             names.append("flow")
+        self.heights.is_read_once = not self.needs_units(names)
         uses = [self._use(name, takes_codes) for name in names]
         if len(uses) == 1:
             return {names[0]: made(self.requests, self.heights, self.program, self.caller, uses[0].on_rows,
