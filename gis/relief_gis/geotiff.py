@@ -31,7 +31,6 @@ def memory_name(ending: str) -> str:
     return f"/vsimem/relief_gis.{id(NUMBERS):x}.{next(NUMBERS)}.{ending}"
 
 
-
 class GeoTiff:
     """A compressed, tiled GeoTIFF that is written in memory by strips of rows, and to the disk when it is whole.
 

@@ -3,7 +3,7 @@ from __future__ import annotations
 
 from concurrent.futures import ThreadPoolExecutor
 from dataclasses import dataclass, replace
-from typing import List, Optional, Sequence, Tuple
+from typing import Callable, List, Optional, Sequence, Tuple
 
 import numpy as np
 
@@ -143,16 +143,21 @@ def make(request: Request, heights: Heights, program: Program, on_progress: Opti
         # Lines of sight lie between their ends, and farther off nothing is seen.
         places = [replace(place, row=place.row - part[0].start, col=place.col - part[1].start)
                   for place in request.places]
-        found = unseen(request.map, heights.valid)
         beyond, within = _strips(heights.shape[0], part[0])
+        rows = slice(within[0].start, within[-1].stop)
         with ThreadPoolExecutor(1) as pool:
             # What lies out of reach need not wait for the program.
-            giving = pool.submit(_give, found, beyond, on_rows)
-            found[part] = make(replace(request, places=places), heights.part(part), program, on_progress, is_cancelled,
-                               by_percent)
+            giving = pool.submit(_give, lambda strip: unseen(request.map, heights.valid[strip]), beyond, on_rows)
+            seen = unseen(request.map, heights.valid[rows])
+            seen[part[0].start - rows.start:part[0].stop - rows.start, part[1]] = make(
+                replace(request, places=places), heights.part(part), program, on_progress, is_cancelled, by_percent)
             giving.result()
-        _give(found, within, on_rows)
-        return found if keeps else found[:0]
+        _give(lambda strip: seen[strip.start - rows.start:strip.stop - rows.start], within, on_rows)
+        if not keeps:
+            return seen[:0]
+        found = unseen(request.map, heights.valid)
+        found[rows] = seen
+        return found
     return make_together(request, heights, program, [Use(request.map, on_rows, keeps)], on_progress, is_cancelled,
                          by_percent)[0]
 
@@ -164,10 +169,10 @@ def _strips(rows: int, reached: slice) -> Tuple[List[slice], List[slice]]:
     return [strip for strip in strips if strip not in within], within
 
 
-def _give(found: np.ndarray, strips: Sequence[slice], on_rows: Optional[TakeRows]) -> None:
+def _give(rows_of: Callable[[slice], np.ndarray], strips: Sequence[slice], on_rows: Optional[TakeRows]) -> None:
     """Gives strips of a map on."""
     for strip in strips if on_rows is not None else ():
-        on_rows(found[strip], strip.start)
+        on_rows(rows_of(strip), strip.start)
 
 
 @dataclass(frozen=True)
