@@ -17,7 +17,7 @@ from .grid_text import STRIP
 SIDECARS = (".aux.xml", ".ovr", ".msk")
 # Level 6 takes two to five times as long as 1 and saves at most a sixth of the bytes.
 LAYOUT = ["TILED=YES", "COMPRESS=DEFLATE", "ZLEVEL=1", "BIGTIFF=IF_SAFER"]
-# Threads that compress: more of them keep those from Python's lock that read.
+# Threads that compress values of up to 4 bytes: more keep those from Python's lock that read. Longer ones take more.
 GDAL_THREADS = max(PROCESSORS // 2, 1)
 # How many bytes are copied at once. GDAL's tiles have a side of STRIP.
 PIECE = 1 << 20
@@ -51,7 +51,8 @@ class GeoTiff:
                  metadata: Mapping[str, str], colors: Optional[Mapping[int, Color]] = None,
                  has_names: bool = False) -> None:
         self.memory = memory_name("tif")
-        options = [*LAYOUT, f"PREDICTOR={1 if has_names else _predictor(dtype)}", f"NUM_THREADS={GDAL_THREADS}"]
+        threads = GDAL_THREADS if dtype.itemsize <= 4 else PROCESSORS
+        options = [*LAYOUT, f"PREDICTOR={1 if has_names else _predictor(dtype)}", f"NUM_THREADS={threads}"]
         with raised_errors():
             driver = gdal.GetDriverByName("GTiff")
             self.dataset = driver.Create(self.memory, frame.cols, frame.rows, len(descriptions), _gdal_type(dtype),
