@@ -80,8 +80,8 @@ def _features(streams: _Streams, reaches: Sequence["array[int]"], counts: np.nda
     for number, reach in enumerate(reaches, 1):
         following = numbers.get(reach[-1])
         cells: List[int] = streams.cells[reach].tolist()
-        # The cell of a confluence is the next reach's own.
-        own = cells[:-1] if following is not None else cells
+        # The cell of a confluence is the next reach's own, or no reach's where no stream leads on.
+        own = cells[:-1] if streams.inflows[reach[-1]] > 1 else cells
         count = int(flat[own[-1]])
         line = ogr.Geometry(ogr.wkbLineString)
         for cell in cells:
