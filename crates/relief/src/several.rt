@@ -144,19 +144,20 @@ fn make_from_directions<H: Threads + Wait + Sync, G: Gate + Sync>(
         &directions,
         tiling,
     )?;
-    let basins = make_counts(
-        runner,
-        maps,
-        gauges,
-        DrainageMap::Basins,
-        &directions,
-        tiling,
-    )?;
+    // Catchments take a list of codes of their own, so basins come when more is kept.
     let catchments = make_counts(
         runner,
         maps,
         gauges,
         DrainageMap::Catchments,
+        &directions,
+        tiling,
+    )?;
+    let basins = make_counts(
+        runner,
+        maps,
+        gauges,
+        DrainageMap::Basins,
         &directions,
         tiling,
     )?;
