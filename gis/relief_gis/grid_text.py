@@ -33,8 +33,8 @@ Target = Any
 NARROW_DIGITS = 9
 # Of so few heights the words are worked out once, if they are no longer than this.
 MOST_TABLE, MOST_WIDTH = 1 << 18, 8
-# Numbers of more digits are none of the program's. So many are computed at once.
-MOST_DIGITS, DIGITS = 16, 7
+# Most digits of a number, zeros before it with them. So many are computed at once.
+MOST_DIGITS, DIGITS = 19, 7
 # Of eight bytes before and behind DIGITS digits and a letter that is none: the bits of the digits by how far it is from
 # the letter before, 1 where there is none between.
 DIGIT_BITS = np.array([0x0F0F0F0F0F0F0F >> 8 * (DIGITS - it) << 8 * (DIGITS - it) if it else 0
@@ -282,6 +282,9 @@ def _numbers(text: np.ndarray) -> np.ndarray:
         longer = np.flatnonzero(steps > place + 1)
         numbers = numbers.astype(np.int64)
         numbers[longer] += _last_digits(text, ends[longer] - place, steps[longer] - place).astype(np.int64) * 10**place
+        if numbers.min() < 0:
+            # Past what 64 bits hold.
+            raise InputError(NO_NUMBERS)
     if is_minus.any():
         numbers[1:] *= 1 - 2 * is_minus[:-1].view(np.int8)
         numbers = numbers[~is_minus]

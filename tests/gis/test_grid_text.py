@@ -127,9 +127,19 @@ class Reading(unittest.TestCase):
             with self.assertRaises(InputError, msg=text[:end]):
                 read_grid(io.BytesIO(text[:end]))
 
+    def test_longest_numbers(self):
+        for digits in range(1, 20):
+            for word in ("9" * digits, "1" + "0" * (digits - 1), "0" * (digits - 1) + "7", "12345678901234567890"[:digits]):
+                text = HEADER.format(1, 2) + f"{word} -{word}\n"
+                if int(word) < 1 << 63:
+                    self.assertEqual(read_grid(io.BytesIO(text.encode())).tolist(), [[int(word), -int(word)]])
+                else:
+                    self.assertRaises(InputError, read_grid, io.BytesIO(text.encode()))
+        self.assertRaises(InputError, read_grid, io.BytesIO((HEADER.format(1, 2) + "1 " + "0" * 20 + "\n").encode()))
+
     def test_words_that_are_no_whole_numbers(self):
         for words in ("1 2  3 4\n", "1 2.5 3 4\n", "1 x 3 4\n", "1 2-3 3 4\n", "1 - 3 4\n", "1 2 3 4 5\n",
-                      "1 +2 3 4\n"):
+                      "1 +2 3 4\n", "1 --2 3 4\n", "1 2 3 -\n", "-- 2 3 4\n", "1 2- 3 4\n", " 2 3 4\n"):
             with self.assertRaises(InputError, msg=words):
                 read_grid(io.BytesIO((HEADER.format(2, 2) + words).encode()))
         for text in (b"", b"no grid\n" * 9, b"ncols x\nnrows 1\n" * 3):
