@@ -22,6 +22,19 @@ pub(crate) fn ends<L: Links>(alloc: Global, links: &L) -> Result<Vec<u32>, Alloc
     Ok(ends)
 }
 
+/// Returns the links as a list, for loops that read a link more than once.
+pub(crate) fn link_list<L: Links>(alloc: Global, links: &L) -> Result<Vec<u32>, AllocError>
+    requires streams { AreStreams (L.list links.now) }
+    requires few { length (L.list links.now) ≤ 2 ^ 30 }
+    ensures { IfOk result (λ v. v.items ≡ L.list links.now) }
+{
+    let mut list = Vec::with_capacity(alloc, links.count())?;
+    for node in 0..links.count() {
+        list.push(links.next(node) as u32)?;
+    }
+    Ok(list)
+}
+
 /// Returns a list of ends for all nodes, each still unknown.
 pub(crate) fn unknown_ends<L: Links>(alloc: Global, links: &L) -> Result<Vec<u32>, AllocError>
     ensures { IfOk result (λ v. AreKnownEnds (L.list links.now) v.items) }

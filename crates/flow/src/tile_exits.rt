@@ -10,7 +10,7 @@ ghost use Rattle.flow.specs.Whole.{is_outlet_code};
 ghost use Rattle.flow.specs.RimGraph.{next_exit_in};
 
 use crate::cells::tile_codes;
-use crate::ends::ends;
+use crate::ends::{ends, link_list};
 use crate::rim::{end_in, rim_ends};
 use crate::tile_links::TileLinks;
 use drainage::Code;
@@ -104,7 +104,9 @@ impl TileExits {
     pub(crate) fn ends(&self, alloc: Global) -> Result<Vec<u32>, AllocError>
         ensures { IfOk result (λ v. AreEnds (links_by self.now.bounds self.now.codes) v.items) }
     {
-        ends(alloc, &self.links)
+        // In a list each link is read at once; a move takes arithmetic each time.
+        let links = link_list(alloc, &self.links)?;
+        ends(alloc, &links)
     }
 
     /// Returns the index of a cell's exit, read from `ends`; `None` without data.
