@@ -89,16 +89,19 @@ class Heights:
         return Heights.of_units(self.rows(cut[0])[:, cut[1]], self.valid[cut], self.decimals)
 
     def drop_units(self) -> None:
-        """Frees the units, where nobody asks for them again."""
-        self._convert = None
-        self._units = np.empty((0, 0), self.dtype)
+        """Frees the units, where nobody asks for them again.
+
+        They stay where a program broke off before all were worked out: by how much they are rounded is told yet.
+        """
+        if self._convert is None:
+            self._units = np.empty((0, 0), self.dtype)
 
     def _work_out(self, rows: slice) -> None:
         """Works out the units of rows. Blocks that two threads ask for may be worked out twice, to the same units."""
         step = self._blocks[0].stop
         # From the last one on: the program takes them from the first one on.
         for at in reversed(range(rows.start // step, min(-(-rows.stop // step), len(self._blocks)))):
-            # In this order: units that were freed are not worked out.
+            # In this order: units are freed once all are worked out.
             units, convert, block = self._units, self._convert, self._blocks[at]
             if convert is not None and not self._is_known[at]:
                 self._roundings.append(convert(block, units[block]))
