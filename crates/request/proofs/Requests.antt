@@ -13,7 +13,7 @@ use Rattle.clap.proofs.OnLiterals.{clap_on_literals}
 use Rattle.terrain.specs.declared.observer.Observer.{Observer}
 use Rattle.terrain.specs.declared.place.Place.{Place}
 use Rattle.request.specs.CommandLine.{AreRefused, AskForHelp, HasNumber, HasOptions, IsHelp, Names, Spell, RequestFor, is_flag_given, program_app, sink_words}
-use Rattle.request.specs.Laws.{AreSame, BasinsOfSinks, CatchmentsOfAGauge, FillAlone, HelpOfView, MapsInOrder, NoSideOfZero, NoTargetOfARise, RiseWithRadius, VersionAlone, ViewWithRadius}
+use Rattle.request.specs.Laws.{AreSame, BasinsOfSinks, CatchmentsOfAGauge, FillAlone, HelpOfView, MapsInOrder, NoSideOfZero, NoTargetOfARise, RiseWithRadius, SinkOfAnOption, VersionAlone, ViewWithRadius}
 use Rattle.request.specs.PlaceWords.{place_of_word}
 use Rattle.request.specs.Request.{Request}
 use Rattle.request.specs.declared.map.DrainageMap.{DrainageMap}
@@ -213,6 +213,22 @@ basins_of_sinks = record {
   map = refl;
   sinks = refl;
   options = default_options (rows_in basins_words) refl refl refl;
+  progress = refl;
+  limits = record { in_limits = search rules; view = λ v. absurd v };
+}
+
+abbrev option_words : List Text
+option_words = codes "relief" ∷ codes "basins" ∷ codes "--sink" ∷ codes "0,3" ∷ codes "1,2" ∷ []
+
+pub sink_of_an_option : SinkOfAnOption
+unfolding clap_on_literals
+sink_of_an_option = record {
+  name = codes "basins";
+  rows = rows_in option_words;
+  command = record { accepted = refl; found = refl };
+  map = refl;
+  sinks = refl;
+  options = default_options (rows_in option_words) refl refl refl;
   progress = refl;
   limits = record { in_limits = search rules; view = λ v. absurd v };
 }

@@ -1,6 +1,6 @@
 -- Subcommands and options for `clap`, and what a command line means: a request, help or refusal.
 -- Trust base.
-use Rattle.std.specs.Prelude.{◌≡◌, ◌⊎◌, ℕ, Bool, ◌<◌, ◌^◌, pos, true, false, ◌||◌, List, [], ◌∷◌, map, Option, Some, None, codes, Any, is_none, unwrap_or, if◌then◌else◌}
+use Rattle.std.specs.Prelude.{◌≡◌, ◌⊎◌, ℕ, Bool, ◌<◌, ◌^◌, pos, true, false, ◌||◌, List, [], ◌∷◌, ◌++◌, map, Option, Some, None, codes, Any, is_none, unwrap_or, if◌then◌else◌}
 use Rattle.std.specs.List.{position}
 use Rattle.std.specs.Option.{option_map_or}
 use Rattle.std.specs.Str.{bytes_eq}
@@ -86,7 +86,7 @@ gauges_rule = words_rule (codes "gauges")
 
 -- `--sink ROW,COL`: an option that may be repeated.
 abbrev pub sink_rule : Rule
-sink_rule = record (new_rule (codes "sinks")) {
+sink_rule = record (new_rule (codes "sink")) {
   long = Some (codes "sink");
   action = Some Append;
   value_names = 1;
@@ -113,10 +113,11 @@ abbrev pub map_shape : Text → Shape
 map_shape name = record
     (new_shape name) { rules = tile_rule ∷ workers_rule ∷ scale_rule ∷ progress_rule ∷ [] }
 
--- The subcommand `name` of filled heights, directions, accumulation or basins. It takes sink words.
+-- The subcommand `name` of filled heights, directions, accumulation or basins. It takes sink words,
+-- and sinks by `--sink`.
 abbrev pub drainage_shape : Text → Shape
 drainage_shape name = record (new_shape name) {
-  rules = tile_rule ∷ workers_rule ∷ scale_rule ∷ progress_rule ∷ sinks_rule ∷ [];
+  rules = tile_rule ∷ workers_rule ∷ scale_rule ∷ progress_rule ∷ sink_rule ∷ sinks_rule ∷ [];
 }
 
 -- The subcommand of catchments. It takes gauge words, and sinks by `--sink`.
@@ -233,9 +234,10 @@ Names name rows (Several maps gauges) =
 abbrev pub is_of_sight : Text → Bool
 is_of_sight name = bytes_eq name (codes "view") || bytes_eq name (codes "rise")
 
--- The words given for sinks; none for subcommands `view` and `rise`.
+-- The sink words, then the values of `--sink`; none for subcommands `view` and `rise`.
 abbrev pub sink_words : Text → List Row → List Text
-sink_words name rows = if is_of_sight name then [] else words_of (codes "sinks") rows
+sink_words name rows =
+    if is_of_sight name then [] else words_of (codes "sinks") rows ++ words_of (codes "sink") rows
 
 -- `--tile`, `--workers` and `--scale` have these values.
 abbrev pub HasOptions : List Row → ℕ → ℕ → ℕ → Type 0

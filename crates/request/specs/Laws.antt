@@ -1,5 +1,5 @@
 -- Statements that module `laws` proves. A command line has at most one request, and is accepted
--- if it has one. Ten examples of command lines have the meaning given here.
+-- if it has one. Eleven examples of command lines have the meaning given here.
 -- Public.
 use Rattle.std.specs.Prelude.{◌≡◌, true, false, List, [], ◌∷◌, Vec, codes}
 use Rattle.std.specs.declared.alloc.Global.{Global}
@@ -49,6 +49,19 @@ FillAlone = RequestFor (codes "relief" ∷ codes "fill" ∷ [])
 -- `relief basins 1,2 0,3` requests basins with two sinks.
 abbrev pub BasinsOfSinks : Type 0
 BasinsOfSinks = RequestFor (codes "relief" ∷ codes "basins" ∷ codes "1,2" ∷ codes "0,3" ∷ [])
+    (record {
+      map = Basins;
+      tile = 256;
+      workers = 1;
+      scale = 0;
+      sinks = record { row = 1; col = 2 } ∷ record { row = 0; col = 3 } ∷ [];
+      progress = false;
+    })
+
+-- `relief basins --sink 0,3 1,2` requests basins with two sinks, that of the word first.
+abbrev pub SinkOfAnOption : Type 0
+SinkOfAnOption = RequestFor
+    (codes "relief" ∷ codes "basins" ∷ codes "--sink" ∷ codes "0,3" ∷ codes "1,2" ∷ [])
     (record {
       map = Basins;
       tile = 256;

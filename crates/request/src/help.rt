@@ -104,14 +104,14 @@ relief maps --gauge 170,102 accumulate catchments < dem.asc > maps.asc",
 };
 
 pub(crate) const SINK_WORDS: &str = "\
-Named sinks, up to 1024, each two whole numbers: the row from 0 at the north, the column from 0 at the west.
-A sink keeps the water that reaches it where no neighbour lies below: name the lowest cell of a pit, as of a
-quarry, and the pit does not fill up. Where a neighbour lies below, the water flows on and the map is the same
-as without the sink. A gauge is no sink";
+Named sinks, with those of --sink up to 1024, each two whole numbers: the row from 0 at the north, the column
+from 0 at the west. A sink keeps the water that reaches it where no neighbour lies below: name the lowest cell
+of a pit, as of a quarry, and the pit does not fill up. Where a neighbour lies below, the water flows on and
+the map is the same as without the sink. A gauge is no sink";
 
 pub(crate) const SINK_OPTION: &str = "\
-A named sink, two whole numbers; give the option again for each, up to 1024. Words without it are no sinks. A
-sink keeps the water that reaches it where no neighbour lies below";
+A named sink, two whole numbers; give the option again for each, up to 1024. Words without it are sinks of
+fill, flow, accumulate and basins alone. A sink keeps the water that reaches it where no neighbour lies below";
 
 pub(crate) const GAUGE_WORDS: &str = "\
 Gauges, 1 to 1024, each two whole numbers: the row from 0 at the north, the column from 0 at the west. Of
@@ -216,4 +216,5 @@ relief: NUMBER NAME [DETAIL]
   63 TooManyGauges       more than 1024: make several maps
 KEY is ncols, nrows, xll, yll (a corner or a centre), cellsize or nodata. PLACE and K count from 0: cells in row
 order, so PLACE is row PLACE / ncols, rounded down, and column PLACE % ncols; observers, gauges, sinks and maps in
-the order of the command line. `relief-cells` turns coordinates into ROW,COL and ROW,COL,EYE.";
+the order of the command line, sinks of --sink after words. `relief-cells` turns coordinates into ROW,COL and
+ROW,COL,EYE.";

@@ -1,6 +1,6 @@
-//! A command line has at most one request, and is accepted if it has one. Ten examples mean
+//! A command line has at most one request, and is accepted if it has one. Eleven examples mean
 //! what their theorems say. The functions have no code; their contracts are the theorems.
-ghost use Rattle.request.specs.Laws.{BasinsOfSinks, CatchmentsOfAGauge, FillAlone, HelpOfView, MapsInOrder, NoSideOfZero, NoTargetOfARise, RiseWithRadius, VersionAlone, ViewWithRadius, RequestsAreAccepted, RequestsAreOne};
+ghost use Rattle.request.specs.Laws.{BasinsOfSinks, CatchmentsOfAGauge, FillAlone, HelpOfView, MapsInOrder, NoSideOfZero, NoTargetOfARise, RiseWithRadius, SinkOfAnOption, VersionAlone, ViewWithRadius, RequestsAreAccepted, RequestsAreOne};
 
 /// Proves that requests of one command line have the same map, options and sinks.
 pub fn requests_are_one()
@@ -22,6 +22,12 @@ pub fn fill_alone()
 #[tactic(auto, using(crate::proofs::Requests::basins_of_sinks))]
 pub fn basins_of_sinks()
     ensures { BasinsOfSinks }
+{}
+
+/// Proves that `relief basins --sink 0,3 1,2` requests basins with sinks 1,2 and 0,3.
+#[tactic(auto, using(crate::proofs::Requests::sink_of_an_option))]
+pub fn sink_of_an_option()
+    ensures { SinkOfAnOption }
 {}
 
 /// Proves for an example that `--sink` names sinks and a positional word a gauge.

@@ -96,11 +96,11 @@ fn required_words<'a>(alloc: Global, name: &'a str, value: &'a str, help: &'a st
         .help(help)
 }
 
-/// Returns `--sink ROW,COL`, for subcommands whose positional words are gauges or maps.
+/// Returns `--sink ROW,COL`. Its id is not that of [`sink_words`], which may stand beside it.
 fn sink_option<'a>(alloc: Global) -> Arg<'a>
     ensures { IsArg sink_rule result }
 {
-    Arg::new(alloc, "sinks")
+    Arg::new(alloc, "sink")
         .long("sink")
         .value_name("ROW,COL")
         .action(ArgAction::Append)
@@ -151,10 +151,12 @@ fn drainage_command<'a>(
 ) -> Result<Command<'a>, AllocError>
     ensures { IfOk result (IsLeaf (drainage_shape name.entry.now)) }
 {
-    map_command(alloc, name, help)?.arg(sink_words(alloc))
+    map_command(alloc, name, help)?
+        .arg(sink_option(alloc))?
+        .arg(sink_words(alloc))
 }
 
-/// Adds subcommand `name`, which takes positional sink words, to the program.
+/// Adds subcommand `name`, which takes sinks as words and by `--sink`, to the program.
 fn with_drainage<'a>(
     alloc: Global,
     program: Command<'a>,

@@ -1,7 +1,7 @@
 //! [`parse`] returns the [`Options`] that a command line requests, or a fault.
-ghost use Rattle.std.specs.Prelude.{◌≡◌, ℕ, [], map, codes, Some, None, IfOk, IfErr, IfSome, IfNone};
+ghost use Rattle.std.specs.Prelude.{◌≡◌, ℕ, [], ◌++◌, map, codes, Some, None, IfOk, IfErr, IfSome, IfNone};
 ghost use Rattle.clap.specs.Words.{found_of, rows_of};
-ghost use Rattle.request.specs.CommandLine.{HasNumber, HasOptions, IsFirstBad, Names, Spell, RequestFor, is_flag_given, is_of_sight, sink_words, words_given};
+ghost use Rattle.request.specs.CommandLine.{HasNumber, HasOptions, IsFirstBad, Names, Spell, RequestFor, is_flag_given, is_of_sight, sink_words, words_given, words_of};
 ghost use Rattle.request.specs.MapWords.{drainage_map_of, maps_fault};
 ghost use Rattle.request.specs.PlaceWords.{observer_of, place_of_word};
 ghost use Rattle.request.specs.Request.{AreLimits};
@@ -232,6 +232,18 @@ fn is_of_sight(name: &str) -> bool
     name == "view" || name == "rise"
 }
 
+/// Returns the sink words in order, then the values of `--sink` in order.
+fn sink_words_given<'a>(alloc: Global, found: &ArgMatches<'a>) -> Result<Vec<&'a str>, AllocError>
+    ensures { IfOk result (λ v. map (λ w. w.now) v.items
+        ≡ words_of (codes "sinks") (rows_of (found_of found.now))
+        ++ words_of (codes "sink") (rows_of (found_of found.now))) }
+{
+    let mut words = Vec::new(alloc);
+    words.extend_from_slice(found.get_strs("sinks").unwrap_or(&[]))?;
+    words.extend_from_slice(found.get_strs("sink").unwrap_or(&[]))?;
+    Ok(words)
+}
+
 /// Returns the sinks given with subcommand `name`; with `view` and `rise`, none.
 fn sinks_given(alloc: Global, name: &str, found: &ArgMatches<'_>) -> Result<Vec<Place>, WordsFault>
     ensures some { IfOk result
@@ -243,8 +255,8 @@ fn sinks_given(alloc: Global, name: &str, found: &ArgMatches<'_>) -> Result<Vec<
     if is_of_sight(name) {
         return Ok(Vec::new(alloc));
     }
-    let words: &[&str] = found.get_strs("sinks").unwrap_or(&[]);
-    sinks_of(alloc, words)
+    let words = sink_words_given(alloc, found)?;
+    sinks_of(alloc, &words)
 }
 
 fn progress_given(found: &ArgMatches<'_>) -> bool

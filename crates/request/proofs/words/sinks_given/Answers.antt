@@ -1,20 +1,17 @@
-use Rattle.std.proofs.Common.{◌≡◌, List, IfErr, IfOk, false, map, refl, subst, sym, codes, ◌∙◌}
+use Rattle.std.proofs.Common.{◌≡◌, List, IfErr, IfOk, false, map, subst, sym, ◌∙◌}
 use Rattle.std.proofs.lemmas.Bool.{cond-false}
 use Rattle.clap.specs.Words.{Text, found_of, rows_of}
 use Rattle.request.specs.CommandLine.{IsFirstBad, Spell, is_of_sight, sink_words}
 use Rattle.request.specs.PlaceWords.{place_of_word}
 use Rattle.request.specs.WordsFaults.{IsFaultWith}
-use Rattle.request.proofs.Given.{given_words}
 use Rattle.request.proofs.words.sinks_given.Goals as goal
 
-same : (c : goal.After-sinks_of) → map (λ w. w.now) c.unwrap_or-words.result.now
+same : (c : goal.After-drop-words) → map (λ w. w.now) c.deref.result.now
     ≡ sink_words c.args.name.now (rows_of (found_of c.args.found.now))
 same c =
-    let found = found_of c.args.found.now in
     let other : is_of_sight c.args.name.now ≡ false = sym c.is_of_sight.ensures
     ∙ c.if-is_of_sight.false in
-    given_words found (codes "sinks") _ _ _ c.unwrap_or-words.ensures refl c.get_strs.ensures
-    ∙ sym (cond-false _ _ _ other)
+    rw c.deref.ensures.value c.in_ok-words.ensures ∙ sym (cond-false _ _ _ other)
 
 pub returns-clause-some : goal.returns-clause-some
 returns-clause-some c = subst (λ (words : List Text).
