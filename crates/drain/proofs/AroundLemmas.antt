@@ -52,9 +52,9 @@ below-positive_part x y h = let above : pos 0 <ℤ (x -ℤ y) = part (x -ℤ y) 
     part (pos n) h = omega (arith, ints)
     part (negsuc n) h = absurd (omega arith)
 
-pub steps_at : (t : Terrain) (steps : List (Option ℕ)) (q : Place) → AreSteps t steps →
+pub steps_at : {t : Terrain} {steps : List (Option ℕ)} (q : Place) → AreSteps t steps →
     IsDataCell t q → (n : ℕ) × (entry_at t.cols t.rows steps q ≡ Some n) × IsSteps t q n
-steps_at t steps q are is =
+steps_at {t} q are is =
     MatchOption-at_some _ _ (height_of t q) (height_is t q is) (are.each q (data_inside t q is))
 
 pub some_drop : (o : Option ℤ) (level : ℤ) → 0 < drop_by level o → (h : ℤ) × (o ≡ Some h) × (h <ℤ level)
@@ -69,7 +69,7 @@ pub zip_heights : (t : Terrain) (steps : List (Option ℕ)) (o : Option Place) �
     ≡ option_and_then (λ q. entry_at t.cols t.rows t.cells q) o
 zip_heights t steps None are = refl
 zip_heights t steps (Some q) are = zipped (height_at t q) (entry_at t.cols t.rows steps q)
-    (λ h is. let n = steps_at t steps q are (ap is_some is) in (n.0, n.1))
+    (λ h is. let n = steps_at q are (ap is_some is) in (n.0, n.1))
   where
     zipped : (o : Option ℤ) (n : Option ℕ) → ((h : ℤ) → o ≡ Some h → (m : ℕ) × (n ≡ Some m)) →
         option_map (λ (w : ℤ × ℕ). w.0) (option_zip o n) ≡ o

@@ -8,20 +8,20 @@ use Rattle.terrain.specs.Raster.{Terrain}
 use Rattle.terrain.specs.Neighbours.{IsDataCell}
 use Rattle.terrain.specs.declared.place.Place.{Place}
 use Rattle.tiles.specs.declared.bounds.Bounds.{Bounds}
-use Rattle.tiles.specs.Cutting.{Cutting, IsCutting, bounds_of}
-use Rattle.tile_maps.specs.Maps.{IsMadeUpTo}
+use Rattle.tiles.specs.declared.window.Window.{Window}
+use Rattle.tiles.specs.Cutting.{Cutting}
 use Rattle.drainage.specs.StepCounts.{no_count}
 use Rattle.drainage.proofs.StoredCounts.{known-some}
 use Rattle.drain.specs.Beginning.{AreBegun, AreBegunSpots, AreSoundInTile, HasGapOrLower, IsEdgeOrHasLower}
 use Rattle.drain.specs.Rounds.{IsWalked}
 use Rattle.drain.specs.Steps.{DrainsAtOnce}
 use Rattle.tiles.specs.Windows.{IsInner, Shows, area_of, spot_index}
-use Rattle.drain.specs.Search.{AreEntriesShown, IsCopied, IsSpread, count_on}
+use Rattle.drain.specs.Search.{AreEntriesShown, IsSpread, count_on}
 use Rattle.drain.proofs.GapOrLower.{shown_drains, drains_shown}
-use Rattle.drain.proofs.Spreading.{not_above-set, spot_from_inner, spread_not_above}
+use Rattle.drain.proofs.Spreading.{set_low, spot_from_inner, spread_low}
 use Rattle.tiles.proofs.Spots.{spot_below}
 use Rattle.tiles.proofs.SpotWays.{inner_shows}
-use Rattle.drain.proofs.TileRound.{at_most, inner_of, known_is, sound_after, sound_set, spot_of, tile_size, tile_walked}
+use Rattle.drain.proofs.TileRound.{IsCopiedTile, at_most, inner_of, known_is, sound_after, sound_set, spot_of, tile_size, tile_walked}
 use Rattle.drain.proofs.Unique.{at_place}
 
 edge_drains : (t : Terrain) (p : Place) → IsEdgeOrHasLower t p → DrainsAtOnce t p
@@ -44,12 +44,12 @@ begun_shown t b levels counts on are = record {
       let n = count_on b counts s in
       let one = (are.each s spot (spot_below b s spot)).1.only n (known-some n less) in
       let p = inner_shows b s one.0.0 in
-      let drains = edge_drains t p.0 (shown_drains t b levels on s p.0 one.0.0 p.1 one.0) in
+      let drains = edge_drains t p.0 (shown_drains t levels on p.0 one.0.0 p.1 one.0) in
       (p.0, p.1, simp one.1 (omega arith, [], drains, refl));
   zeros = λ s p inner shows drains.
-      let spot = spot_from_inner b s inner in
+      let spot = spot_from_inner inner in
       known_is (count_on b counts s) 0 ((are.each s spot (spot_below b s spot)).1.zero
-      (drains_shown t b levels on s p inner shows drains));
+      (drains_shown t levels on p inner shows drains));
 }
 
 abbrev pub sink_at : List Place → ℕ → Place
@@ -61,24 +61,24 @@ DrainsBefore t sinks end p = IsEdgeOrHasLower t p
     ⊎ (IsDataCell t p × (k : ℕ) × (k < end) × (k < length sinks) × (get_or sinks k p ≡ p))
 
 -- the counts are 0 wherever B holds, if B implies A there
-zeros_by : (t : Terrain) (A B : Place → Type 0) (b : Bounds) (counts : List ℕ) →
+zeros_by : {t : Terrain} {A : Place → Type 0} (B : Place → Type 0) {b : Bounds} {counts : List ℕ} →
     ((s p : Place) → IsInner b s → Shows b s p → B p → A p) → AreBegun t b A counts → AreBegun t b B counts
-zeros_by t A B b counts from are = record {
+zeros_by B from are = record {
   size = are.size;
   few = are.few;
   sound = are.sound;
   zeros = λ s p inner shows drains. are.zeros s p inner shows (from s p inner shows drains);
 }
 
-pub before_any : (t : Terrain) (sinks : List Place) (b : Bounds) (counts : List ℕ) →
+pub before_any : {t : Terrain} (sinks : List Place) {b : Bounds} {counts : List ℕ} →
     AreBegun t b (IsEdgeOrHasLower t) counts → AreBegun t b (DrainsBefore t sinks 0) counts
-before_any t sinks b counts = zeros_by t (IsEdgeOrHasLower t) (DrainsBefore t sinks 0) b counts
+before_any {t} sinks {b} {counts} = zeros_by (DrainsBefore t sinks 0)
     (λ s p inner shows drains. elim drains [ inl anyway ↦ anyway | inr sink ↦ absurd (omega (arith, sink.2)) ])
 
-pub before_all : (t : Terrain) (sinks : List Place) (end : ℕ) (b : Bounds) (counts : List ℕ) → sinks ≡ t.sinks →
+pub before_all : {t : Terrain} {sinks : List Place} (end : ℕ) {b : Bounds} {counts : List ℕ} → sinks ≡ t.sinks →
     length sinks ≤ end → AreBegun t b (DrainsBefore t sinks end) counts → AreBegun t b (DrainsAtOnce t) counts
-before_all t sinks end b counts named all =
-    zeros_by t (DrainsBefore t sinks end) (DrainsAtOnce t) b counts (λ s p inner shows drains. elim drains [
+before_all {t} {sinks} end {b} {counts} named all =
+    zeros_by (DrainsAtOnce t) (λ s p inner shows drains. elim drains [
       | inl lower ↦ inl (inl lower)
       | inr end ↦ elim end [
         | inl edge ↦ inl (inr edge)
@@ -87,7 +87,7 @@ before_all t sinks end b counts named all =
       ]
     ])
 
-module _ (t : Terrain) (sinks : List Place) (index : ℕ) (b : Bounds) (counts : List ℕ)
+module _ {t : Terrain} (sinks : List Place) (index : ℕ) {b : Bounds} {counts : List ℕ}
     (below : index < length sinks) (before : AreBegun t b (DrainsBefore t sinks index) counts) where
   abbrev sink : Place
   sink = sink_at sinks index
@@ -106,7 +106,7 @@ module _ (t : Terrain) (sinks : List Place) (index : ℕ) (b : Bounds) (counts :
   -- one more sink, outside the tile or without data, changes no count
   pub sink_passed : ((s : Place) → IsInner b s → Shows b s (sink_at sinks index) →
       IsDataCell t (sink_at sinks index) → ⊥) → AreBegun t b (DrainsBefore t sinks (index + 1)) counts
-  sink_passed out = zeros_by t (DrainsBefore t sinks index) (DrainsBefore t sinks (index + 1)) b counts
+  sink_passed out = zeros_by (DrainsBefore t sinks (index + 1))
       (λ s p inner shows. earlier p (λ same is. out s inner (rw same at shows)
       (rw same at is))) before
 
@@ -115,40 +115,36 @@ module _ (t : Terrain) (sinks : List Place) (index : ℕ) (b : Bounds) (counts :
       IsDataCell t (sink_at sinks index) →
       AreBegun t b (DrainsBefore t sinks (index + 1)) (slice_set counts (spot_index b r) 0)
   sink_put own r inner on here =
-      let spot = spot_from_inner b r inner in
+      let spot = spot_from_inner inner in
       let drains : DrainsAtOnce t sink =
       inr (inr (here, rw (← own) (index, below, named sink))) in
       record {
         size = length-set counts (spot_index b r) 0 ∙ before.size;
-        few = λ k. omega (arith, before.few k, (not_above-set counts (spot_index b r) 0 (omega arith)).each k);
+        few = λ k. omega (arith, before.few k, set_low counts (spot_index b r) 0 k (omega arith));
         sound = sound_set t b counts r 0 before.size spot before.sound
             (sink, on, (omega arith, [], drains, refl));
         zeros = λ s p inside shows below_it. elim (cases_eq (spot_index b s) (spot_index b r)) [
           | inl e ↦ ap (λ (k : ℕ). get_or (slice_set counts (spot_index b r) 0) k 0) e
               ∙ get_or-set_same counts (spot_index b r) 0 0 (omega (arith, before.size, spot_below b r spot))
           | inr ne ↦ get_or-set_other counts (spot_index b r) (spot_index b s) 0 0 ne
-              ∙ before.zeros s p inside shows (earlier p (λ same is. ne (ap (λ (q : Place). spot_index b q)
+              ∙ before.zeros s p inside shows (earlier p (λ same is. ne (ap (spot_index b)
               (same_place s r (omega (arith, shows.0, on.0, ap (λ (q : Place). q.row) same))
               (omega (arith, shows.1, on.1, ap (λ (q : Place). q.col) same))))) below_it)
         ];
       }
 
 -- a search from the initial counts keeps the counts of the tile sound
-pub begun_tile : (t : Terrain) (b : Bounds) (counts : List ℕ) → AreBegun t b (DrainsAtOnce t) counts →
-    (c : Cutting) (tile : ℕ) (levels : List (Option ℤ)) (new : List ℕ) (list : List (Option ℕ)) → IsCutting c →
-    b ≡ bounds_of c tile → AreEntriesShown t t.cells b levels → IsSpread b levels counts new →
-    IsMadeUpTo b (IsCopied b new) (b.rows * b.cols) list → AreSoundInTile t c tile list
-begun_tile t b counts are c tile levels new list cutting bounds on spread out = record {
-  size = tile_size t c tile b new list cutting bounds out;
+pub begun_tile : {t : Terrain} {w : Window (Option ℤ)} {counts new : List ℕ} {c : Cutting} {tile : ℕ}
+    {list : List (Option ℕ)} → AreBegun t w.bounds (DrainsAtOnce t) counts →
+    AreEntriesShown t t.cells w.bounds w.values.items → IsSpread w counts new → IsCopiedTile c tile w.bounds new list →
+    AreSoundInTile t c tile list
+begun_tile {t} {w} are on spread of = record {
+  size = tile_size of;
   zeros = λ p i drains.
-      let inner = inner_of t c tile b new list cutting bounds out p i in
-      let s = spot_of b p in
-      let at = at_most t c tile b new list cutting bounds out p 0 i (omega (
-        arith,
-        (spread_not_above b levels counts new spread).each (spot_index b s),
-        are.zeros s p inner.0 inner.1 drains,
-      )) (omega arith) in
+      let inner = inner_of of p i in
+      let s = spot_of w.bounds p in
+      let at = at_most of p 0 i
+      (omega (arith, spread_low spread (spot_index w.bounds s), are.zeros s p inner.0 inner.1 drains)) (omega arith) in
       at.1 ∙ ap Some (omega (arith, at.2));
-  walked = tile_walked t c tile b new list cutting bounds out
-      (sound_after t b levels on counts new are.size are.few are.sound spread);
+  walked = tile_walked of t (sound_after t w on are.size are.few are.sound spread);
 }

@@ -69,7 +69,7 @@ apart_on t p rest w s i j lt last same =
     let second = subst (λ (c : Place). IsSteps t c (length rest - j)) (sym same)
     (steps_on t rest p j w s (omega arith)) in
     let one : length rest - i ≡ length rest - j =
-    one_number_of_steps t (cell_on p rest i) _ _ first second in
+    one_number_of_steps first second in
     omega arith
 
 few_cells : (cols rows : ℕ) → cols ≤ 4096 → rows ≤ 4096 → cols * rows ≤ 2 ^ 24

@@ -42,19 +42,19 @@ gap_at : (level : ℤ) (o : Option ℤ) → is_some o ≡ false → IsGapOrLower
 gap_at level None e = tt
 gap_at level (Some h) e = absurd (false≢true (sym e))
 
-module _ (t : Terrain) (b : Bounds) (levels : List (Option ℤ))
-    (on : AreEntriesShown t t.cells b levels) (s p : Place)
+module _ (t : Terrain) {b : Bounds} (levels : List (Option ℤ))
+    (on : AreEntriesShown t t.cells b levels) {s : Place} (p : Place)
     (inner : IsInner b s) (shows : Shows b s p) where
   abbrev height_of_place : Option Place → Option ℤ
   height_of_place o = option_and_then (λ r. entry_at t.cols t.rows t.cells r) o
 
-  value_is : (way : ℕ) (o : Option Place) → way < 8 → place_on way p ≡ o →
+  value_is : (way : ℕ) {o : Option Place} → way < 8 → place_on way p ≡ o →
       get_or levels (get_or (around_index (b.cols + 2) (spot_index b s)) way 0) None ≡ height_of_place o
-  value_is way o below e = value_on_way b s p inner shows t.cols t.rows t.cells levels
-      (around_index (b.cols + 2) (spot_index b s)) on refl way below ∙ ap height_of_place e
+  value_is way below e = rw e at (value_on_way b s p inner shows t.cols t.rows t.cells levels
+      (around_index (b.cols + 2) (spot_index b s)) on refl way below)
 
   own_is : get_or levels (spot_index b s) None ≡ height_at t p
-  own_is = (on s (spot_from_inner b s inner)).0 p shows
+  own_is = (on s (spot_from_inner inner)).0 p shows
 
   pub shown_drains : HasGapOrLower b levels s → IsEdgeOrHasLower t p
   shown_drains (_, level, here, way, below, found) =
@@ -67,7 +67,7 @@ module _ (t : Terrain) (b : Bounds) (levels : List (Option ℤ))
         | inr (q, e) ↦ elim (cases_option (height_at t q)) [
           | inl gap ↦ inr (ap is_some high, inr (inr (q, (on_way_beside p q way below e).0, ap is_some gap)))
           | inr (h, there) ↦
-              (let lower : h <ℤ level = rw (value_is way (Some q) below e ∙ there) at found in
+              (let lower : h <ℤ level = rw (value_is way below e ∙ there) at found in
               inl (
                 q,
                 (
@@ -92,7 +92,7 @@ module _ (t : Terrain) (b : Bounds) (levels : List (Option ℤ))
         own_is ∙ data_height t p is,
         way,
         below,
-        rw (value_is way o below e) bad,
+        rw (value_is way below e) bad,
       )
 
       near : IsDataCell t p → (q : Place) → Touches p q → p ≢ q → IsGapOrLower level (height_at t q) →

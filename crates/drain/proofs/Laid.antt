@@ -56,9 +56,8 @@ module _ (t : Terrain) (p : Place) (level : ℤ) (heights : List (Option ℤ))
   weighs q way below e (next, less) =
       let h = height_of t q in
       let lower : h <ℤ level = subst (λ z. h <ℤ z) here less in
-      let drop : drop_on level heights way ≡ positive_part (level -ℤ h) = ap (drop_by level) (on way below
-      ∙ ap (λ (o : Option Place). option_and_then (λ r. entry_at t.cols t.rows t.cells r) o) e
-      ∙ data_height t q next.to_data) in
+      let drop : drop_on level heights way ≡ positive_part (level -ℤ h) =
+      ap (drop_by level) ((rw e at (on way below)) ∙ data_height t q next.to_data) in
       let gap = int_gap h (height_of t p) in
       let is : drop_on level heights way ≡ gap = drop ∙ gap-below level h lower
       ∙ ap (λ z. int_gap h z) (sym here) in
@@ -121,10 +120,10 @@ LeadsOn t steps p n q = (height_at t q ≡ height_at t p) × (m : ℕ)
     × (entry_at t.cols t.rows steps q ≡ Some m) × (m + 1 ≡ n)
 
 -- The data cell p has n steps.
-module _ (t : Terrain) (steps : List (Option ℕ)) (p : Place) (n : ℕ) (are : AreSteps t steps)
+module _ {t : Terrain} {steps : List (Option ℕ)} (p : Place) (n : ℕ) (are : AreSteps t steps)
     (is_data : IsDataCell t p) (count : entry_at t.cols t.rows steps p ≡ Some n) where
   own : IsSteps t p n
-  own = let m = steps_at t steps p are is_data in
+  own = let m = steps_at p are is_data in
       subst (λ k. IsSteps t p k) (same_Some _ _ (sym m.1 ∙ count)) m.2
 
   pub without_steps : n ≡ 0 → DrainsAtOnce t p
@@ -136,14 +135,14 @@ module _ (t : Terrain) (steps : List (Option ℕ)) (p : Place) (n : ℕ) (are : 
 
   such_leads : (q : Place) → IsOnward t p q → LeadsOn t steps p n q
   such_leads q (next, level, m, there, above) =
-      let at = steps_at t steps q are next.to_data in (
+      let at = steps_at q are next.to_data in (
         level,
         at.0,
         at.1,
         omega (
           arith,
-          one_number_of_steps t q at.0 m at.2 there,
-          one_number_of_steps t p (m + 1) n above own,
+          one_number_of_steps at.2 there,
+          one_number_of_steps above own,
         ),
       )
 
@@ -152,7 +151,7 @@ module _ (t : Terrain) (steps : List (Option ℕ)) (p : Place) (n : ℕ) (are : 
       (DrainsAtOnce t p → ⊥) → IsDirection t p (code_of (Some way))
   onward_is q way below e (level, m, there, one) first stays =
       let next = next_on_way t p q way below e is_data (ap is_some level ∙ is_data) in
-      let at = steps_at t steps q are next.to_data in
+      let at = steps_at q are next.to_data in
       let same : n ≡ at.0 + 1 = sym (ap (λ k. k + 1) (same_Some _ _ (sym at.1 ∙ there)) ∙ one) in
       record {
         steepest = λ lower. absurd (stays (inl lower));
@@ -166,7 +165,7 @@ module _ (t : Terrain) (steps : List (Option ℕ)) (p : Place) (n : ℕ) (are : 
       (q : Place) × (way : ℕ) × (way < 8) × (place_on way p ≡ Some q) × LeadsOn t steps p n q
   leads_by [] walk size stays = absurd (stays walk)
   leads_by (q ∷ rest) walk size stays =
-      let m = steps_at t steps q are walk.0.to_data in
+      let m = steps_at q are walk.0.to_data in
       let way = way_to p q walk.0.touches walk.0.different in
       let under : m.0 ≤ length rest = m.2.least rest walk.2 in
       let above : n ≤ length (q ∷ m.2.reached.0) =
@@ -177,7 +176,7 @@ module _ (t : Terrain) (steps : List (Option ℕ)) (p : Place) (n : ℕ) (are : 
       (q : Place) × (way : ℕ) × (way < 8) × (place_on way p ≡ Some q) × LeadsOn t steps p n q
   leads stays = leads_by own.reached.0 own.reached.1 own.reached.2 stays
 
-module _ (t : Terrain) (steps : List (Option ℕ)) (p : Place) (a : Around) (are : AreSteps t steps)
+module _ {t : Terrain} {steps : List (Option ℕ)} {p : Place} {a : Around} (are : AreSteps t steps)
     (laid : IsLaidAround t steps p a) where
   is_data : IsDataCell t p
   is_data = ap is_some laid.level
@@ -208,22 +207,18 @@ module _ (t : Terrain) (steps : List (Option ℕ)) (p : Place) (a : Around) (are
   leads_to : (way : ℕ) (q : Place) → way < 8 → place_on way p ≡ Some q → LeadsOn t steps p a.steps q →
       leads_on a (get_or a.ways way None) ≡ true
   leads_to way q below e (level, m, there, one) =
-      let shown = laid.ways way below ∙ ap (λ (o : Option Place). option_zip (option_and_then
-      (λ r. entry_at t.cols t.rows t.cells r) o) (option_and_then (λ r. entry_at t.cols t.rows steps r) o)) e
-      ∙ ap (λ (o : Option ℤ). option_zip o (entry_at t.cols t.rows steps q)) (level ∙ laid.level)
-      ∙ ap (λ (o : Option ℕ). option_zip (Some a.level) o) there in
-      rw shown (and_from _ _
-      ((Decides-int_eq a.level a.level).1 refl) (eq-eqb _ _ one))
+      rw (rw (e, level ∙ laid.level, there) at (laid.ways way below))
+      (and_from _ _ ((Decides-int_eq a.level a.level).1 refl) (eq-eqb _ _ one))
 
   leads_any : (DrainsAtOnce t p → ⊥) → list_any (leads_on a) a.ways ≡ true
-  leads_any stays = let q = leads t steps p a.steps are is_data laid.own_steps stays in
+  leads_any stays = let q = leads p a.steps are is_data laid.own_steps stays in
       list_any_at (leads_on a) a.ways q.1 None (omega (arith, laid.count, q.2)) (leads_to q.1 q.0 q.2 q.3 q.4)
 
   drops : HasLower t p → list_any (λ w. ltb 0 (drop_to a.level w)) a.ways ≡ true
   drops (q, lower) =
       let way = lower_drops t p a.level heights laid.level on q lower in
       list_any_at (λ w. ltb 0 (drop_to a.level w)) a.ways way.0 None (omega (arith, laid.count, way.1))
-      (lt-ltb _ _ (omega (arith, drop_is a a.level heights has way.0 way.1, way.2)))
+      (lt-ltb _ _ (omega (arith, drop_is has way.0 way.1, way.2)))
 
   pub fitting : IsTerrain t → IsAround t steps p a → IsFitting a
   fitting lawful around = record {
@@ -248,14 +243,14 @@ module _ (t : Terrain) (steps : List (Option ℕ)) (p : Place) (a : Around) (are
   direction_by : IsAround t steps p a → IsDirection t p (direction_of a)
   direction_by around = elim (cases_lt 0 (fold max 0 (weights a))) [
     | inl some ↦
-        (let way = some_steepest a a.level heights has some in
-        subst (IsDirection t p) (sym (direction_down a a.level heights has way.0 way.1))
+        (let way = some_steepest has some in
+        subst (IsDirection t p) (sym (direction_down has way.0 way.1))
         (down_is t p a.level heights laid.level on way.0 way.1))
     | inr none ↦
-        (let flat = flat_from a a.level heights has none in
+        (let flat = flat_from has none in
         elim (cases_Bool a.edge) [
           | inl end ↦ subst (IsDirection t p)
-              (sym (direction_flat a a.level heights has flat ∙ cond-true _ _ _ end))
+              (sym (direction_flat has flat ∙ cond-true _ _ _ end))
               (outlet_is t p a.level heights laid.level on flat (inr (around.edge.0 end)))
           | inr off ↦
               (let stays : DrainsAtOnce t p → ⊥ = λ drains. elim drains [
@@ -266,8 +261,8 @@ module _ (t : Terrain) (steps : List (Option ℕ)) (p : Place) (a : Around) (are
               let found = position-Some (leads_on a) a.ways way.0 None way.1 in
               let below : way.0 < 8 = omega (arith, found.0, laid.count) in
               let q = leading way.0 below found.1 in
-              subst (IsDirection t p) (sym (direction_onward a a.level heights has way.0 flat off way.1))
-              (onward_is t steps p a.steps are is_data laid.own_steps q.0 way.0 below q.1 q.2
+              subst (IsDirection t p) (sym (direction_onward has way.0 flat off way.1))
+              (onward_is p a.steps are is_data laid.own_steps q.0 way.0 below q.1 q.2
               (λ k r small e such. elim (cases_lt k way.0) [
                 | inl less ↦ absurd (false≢true (sym (found.2 k less) ∙ leads_to k r small e such))
                 | inr after ↦ after
@@ -275,9 +270,9 @@ module _ (t : Terrain) (steps : List (Option ℕ)) (p : Place) (a : Around) (are
         ])
   ]
 
-pub direction_is : (t : Terrain) (steps : List (Option ℕ)) (p : Place) (a : Around) →
+pub direction_is : {t : Terrain} {steps : List (Option ℕ)} {p : Place} {a : Around} →
     AreSteps t steps → IsAround t steps p a → IsDirection t p (direction_of a)
-direction_is t steps p a are around = direction_by t steps p a are around.laid around
+direction_is are around = direction_by are around.laid around
 
 pub code_is : (t : Terrain) (p : Place) (level : ℤ) (code : ℕ) → height_at t p ≡ Some level →
     IsDirection t p code → IsCodeAt t p (Some code)

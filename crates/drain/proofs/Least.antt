@@ -5,31 +5,28 @@ use Rattle.std.proofs.Common.{◌≡◌, ℕ, ◌+◌, ◌<◌, ◌≤◌, ◌�
 use Rattle.std.proofs.lemmas.Bool.{cases_eq}
 use Rattle.terrain.proofs.Places.{make_place, same_place}
 use Rattle.terrain.specs.declared.place.Place.{Place}
-use Rattle.tiles.specs.declared.bounds.Bounds.{Bounds}
-use Rattle.drain.specs.Search.{level_on, count_on, IsLeastAlong}
+use Rattle.tiles.specs.declared.window.Window.{Window}
+use Rattle.drain.specs.Search.{height_on, count_on, IsLeastAlong}
 
-pub least_of_none : (b : Bounds) (levels : List (Option ℤ)) (counts : List ℕ) (from : Place)
-    (level : Option ℤ) (bound : ℕ) → IsLeastAlong b levels counts from from.col level bound bound
-least_of_none b levels counts from level bound = record {
+pub least_of_none : (w : Window (Option ℤ)) (counts : List ℕ) (from : Place) (level : Option ℤ) (bound : ℕ) →
+    IsLeastAlong w counts from from.col level bound bound
+least_of_none w counts from level bound = record {
   low = omega arith;
   each = λ r row first last on. absurd (omega arith);
   one = inl refl;
 }
 
-pub least_with : (b : Bounds) (levels : List (Option ℤ)) (counts : List ℕ) (from : Place) (col : ℕ)
-    (level : Option ℤ) (bound least next : ℕ)
-    → IsLeastAlong b levels counts from col level bound least → from.col ≤ col → next ≤ least
-    → (level_on b levels (make_place from.row col) ≡ level →
-    next ≤ count_on b counts (make_place from.row col) + 1)
-    → ((next ≡ least) ⊎ ((level_on b levels (make_place from.row col) ≡ level)
-    × (next ≡ count_on b counts (make_place from.row col) + 1) × (next < least)))
-    → IsLeastAlong b levels counts from (col + 1) level bound next
-least_with b levels counts from col level bound least next f after less each one = record {
+pub least_with : {w : Window (Option ℤ)} {counts : List ℕ} {from : Place} {col : ℕ} {level : Option ℤ}
+    {bound least next : ℕ} → IsLeastAlong w counts from col level bound least → from.col ≤ col → next ≤ least →
+    (height_on w (make_place from.row col) ≡ level →
+    next ≤ count_on w.bounds counts (make_place from.row col) + 1) →
+    ((next ≡ least) ⊎ ((height_on w (make_place from.row col) ≡ level)
+    × (next ≡ count_on w.bounds counts (make_place from.row col) + 1) × (next < least))) →
+    IsLeastAlong w counts from (col + 1) level bound next
+least_with {from = from} {col = col} f after less each one = record {
   low = omega (arith, f.low);
   each = λ r row first last on. elim (cases_eq r.col col) [
-    | inl e ↦
-        (let here : r ≡ make_place from.row col = same_place r (make_place from.row col) row e in
-        rw here (each (rw here at on)))
+    | inl e ↦ (let here = same_place r (make_place from.row col) row e in rw here (each (rw here at on)))
     | inr ne ↦ (let before = f.each r row first (omega arith) on in omega arith)
   ];
   one = elim one [

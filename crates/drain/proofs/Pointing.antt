@@ -55,9 +55,9 @@ next_on_way t p q way below e from to =
     let beside = on_way_beside p q way below e in
     record { different = beside.1; touches = beside.0; from_data = from; to_data = to }
 
-one_first : (IsSuch : Place → Type 0) (p : Place) (m n : ℕ) → PointsToFirst IsSuch p m →
+one_first : {IsSuch : Place → Type 0} {p : Place} {m n : ℕ} → PointsToFirst IsSuch p m →
     PointsToFirst IsSuch p n → m ≡ n
-one_first IsSuch p m n a b =
+one_first {m = m} {n = n} a b =
     omega (arith, a.first n b.one.0 b.one.1 b.one.2, b.first m a.one.0 a.one.1 a.one.2)
 
 off_both : (t : Terrain) (p : Place) → (HasLower t p → ⊥) → (IsEnd t p → ⊥) → DrainsAtOnce t p → ⊥
@@ -67,10 +67,10 @@ off_both t p high off (inr end) = off end
 pub one_direction : (t : Terrain) (p : Place) (m n : ℕ) → IsDirection t p m → IsDirection t p n →
     m ≡ n
 one_direction t p m n a b = elim (has_lower t p) [
-  | inl lower ↦ one_first (IsSteepest t p) p m n (a.steepest lower) (b.steepest lower)
+  | inl lower ↦ one_first (a.steepest lower) (b.steepest lower)
   | inr high ↦ elim (end_cell t p) [
     | inl end ↦ a.outlet high end ∙ sym (b.outlet high end)
-    | inr off ↦ one_first (IsOnward t p) p m n (a.onward (off_both t p high off))
+    | inr off ↦ one_first (a.onward (off_both t p high off))
         (b.onward (off_both t p high off))
   ]
 ]
@@ -87,8 +87,8 @@ direction_leads t steps codes p code are d some = elim (has_lower t p) [
     | inr off ↦
         (let to = (d.onward (off_both t p high off)).one in
         let next = to.2.0 in
-        let here = steps_at t steps p are next.from_data in
-        let there = steps_at t steps to.0 are next.to_data in (
+        let here = steps_at p are next.from_data in
+        let there = steps_at to.0 are next.to_data in (
           to.0,
           to.1,
           next.to_data,
@@ -96,9 +96,9 @@ direction_leads t steps codes p code are d some = elim (has_lower t p) [
             to.2.1,
             λ m n own other.
                 let own_is : m ≡ to.2.2 + 1 = same_Some _ _ (sym own ∙ here.1)
-                ∙ one_number_of_steps t p here.0 (to.2.2 + 1) here.2 to.2.4 in
+                ∙ one_number_of_steps here.2 to.2.4 in
                 let other_is : n ≡ to.2.2 = same_Some _ _ (sym other ∙ there.1)
-                ∙ one_number_of_steps t to.0 there.0 to.2.2 there.2 to.2.3 in
+                ∙ one_number_of_steps there.2 to.2.3 in
                 omega arith,
           ),
         ))

@@ -16,6 +16,7 @@ use Rattle.drainage.proofs.Reach.{data_inside}
 use Rattle.tiles.specs.Cutting.{AreTileLists, Cutting, Cuts, IsCutting, IsPutBack, IsWithin, tile_count, tile_entry, tile_of_place}
 use Rattle.tiles.proofs.Cut.{tile_of_place_below}
 use Rattle.tiles.proofs.PutBack.{entry_at-put_back}
+use Rattle.drain.specs.Search.{stored}
 use Rattle.drain.specs.Beginning.{AreSoundInTile}
 use Rattle.tile_maps.specs.Maps.{IsMadeTile}
 use Rattle.tile_maps.proofs.TileLists.{entry_of_tile}
@@ -30,7 +31,7 @@ use Rattle.drain.proofs.TileRound.{some_of_known, walked_on}
 use Rattle.drain.proofs.Unique.{at_place}
 
 small_walk : (t : Terrain) (p : Place) (o : Option ℕ) → IfSome o (IsWalked (DrainsAtOnce t) t p) →
-    unwrap_or o (2 ^ 24) ≤ 2 ^ 24
+    stored o ≤ 2 ^ 24
 small_walk t p None walked = omega arith
 small_walk t p (Some n) walked = omega (arith, walked.0)
 
@@ -39,9 +40,9 @@ pub small : (t : Terrain) (steps : List (Option ℕ)) (k : ℕ) → AreSoundCoun
 small t steps k counts = elim (cases_lt k (t.cols * t.rows)) [
   | inl below ↦ at_place (λ (i : ℕ). count_of steps i ≤ 2 ^ 24) t.cols t.rows (λ p row col.
       let here = small_walk t p (entry_at t.cols t.rows steps p) (counts.walked p) in
-      let same = ap (λ (o : Option ℕ). unwrap_or o (2 ^ 24)) (entry-inside t.cols t.rows steps p row col) in
+      let same = ap stored (entry-inside t.cols t.rows steps p row col) in
       omega (arith, here, same)) k below
-  | inr past ↦ (let none = ap (λ (o : Option ℕ). unwrap_or o (2 ^ 24))
+  | inr past ↦ (let none = ap stored
       (get_or_past steps k None (omega (arith, past, counts.size))) in omega (arith, none))
 ]
 
@@ -50,17 +51,17 @@ pub known_counted : (t : Terrain) (steps : List (Option ℕ)) (p : Place) (n : �
     IsInside t p → n ≡ count_of steps (index_of t.cols p) → n < 2 ^ 24 →
     IsCounted t (record { place = p; count = n })
 known_counted t steps p n counts inside is few =
-    let same = ap (λ (o : Option ℕ). unwrap_or o (2 ^ 24))
+    let same = ap stored
     (sym (entry-inside t.cols t.rows steps p inside.0 inside.1)) in
     let known = some_of_known (entry_at t.cols t.rows steps p) n (is ∙ same) few in
     record { inside = inside; walked = MatchOption-at_some _ _ n known (counts.walked p) }
 
 -- a neighbour of equal height has a walk of one move more
-pub lower_change : (t : Terrain) (steps : List (Option ℕ)) (from : Change) (to : Place) →
+pub lower_change : {t : Terrain} {steps : List (Option ℕ)} {from : Change} {to : Place} →
     AreSoundCounts t steps → IsCounted t from → IsInside t to → Touches to from.place → to ≢ from.place →
     height_at t from.place ≡ height_at t to → from.count + 1 < count_of steps (index_of t.cols to) →
     IsChange t steps (record { place = to; count = from.count + 1 })
-lower_change t steps from to counts counted inside touch differ level less =
+lower_change {t} {steps} {from} {to} counts counted inside touch differ level less =
     let few : from.count + 1 < 2 ^ 24 = omega (arith, less, small t steps (index_of t.cols to) counts) in
     let is_data = data_on_walk t from.place counted.walked.1 counted.walked.2 in
     let next : IsNeighbour t to from.place = record {
@@ -72,13 +73,13 @@ lower_change t steps from to counts counted inside touch differ level less =
     record {
       counted = record {
         inside = inside;
-        walked = walked_on t from.place to from.count next level counted.walked few;
+        walked = walked_on from.count next level counted.walked few;
       };
       less = less;
     }
 
-module _ (t : Terrain) (steps : List (Option ℕ)) (counts : AreSoundCounts t steps) (x : Change)
-    (counted : IsCounted t x) (v : Option ℕ) (is : v ≡ Some x.count)
+module _ {t : Terrain} {steps : List (Option ℕ)} (counts : AreSoundCounts t steps) {x : Change}
+    (counted : IsCounted t x) {v : Option ℕ} (is : v ≡ Some x.count)
     (less : x.count < count_of steps (index_of t.cols x.place)) where
   abbrev index : ℕ
   index = index_of t.cols x.place
@@ -96,13 +97,13 @@ module _ (t : Terrain) (steps : List (Option ℕ)) (counts : AreSoundCounts t st
   there k ne = get_or-set_other steps index k v None ne
 
   count_here : count_of after index ≡ x.count
-  count_here = ap (λ (o : Option ℕ). unwrap_or o (2 ^ 24)) here
+  count_here = ap stored here
 
   pub set_low : (k : ℕ) → count_of after k ≤ count_of steps k
   set_low k = elim (cases_eq k index) [
-    | inl e ↦ (let a = ap (λ (n : ℕ). count_of after n) e in let b = ap (λ (n : ℕ). count_of steps n) e in
+    | inl e ↦ (let a = ap (count_of after) e in let b = ap (count_of steps) e in
         omega (arith, a, b, count_here, less))
-    | inr ne ↦ (let same = ap (λ (o : Option ℕ). unwrap_or o (2 ^ 24)) (there k ne) in omega (arith, same))
+    | inr ne ↦ (let same = ap stored (there k ne) in omega (arith, same))
   ]
 
   pub set_less : count_sum after < count_sum steps
@@ -132,11 +133,11 @@ module _ (t : Terrain) (steps : List (Option ℕ)) (counts : AreSoundCounts t st
         elim (cases_eq (index_of t.cols p) index) [
           | inl e ↦
               (let one = index_injective t.cols p x.place within.1 counted.inside.1 e in
-              let zero = ap (λ (o : Option ℕ). unwrap_or o (2 ^ 24))
+              let zero = ap stored
               (sym (entry-inside t.cols t.rows steps p within.0 within.1) ∙ counts.zeros p drains) in
-              let same = ap (λ (n : ℕ). count_of steps n) e in
+              let same = ap (count_of steps) e in
               absurd (omega (arith, zero, same, less)))
-          | inr ne ↦ entry.1 (λ e. ne (ap (λ (q : Place). index_of t.cols q) e)) ∙ counts.zeros p drains
+          | inr ne ↦ entry.1 (λ e. ne (ap (index_of t.cols) e)) ∙ counts.zeros p drains
         ];
     walked = λ p. if_some (entry_at t.cols t.rows after p) (IsWalked (DrainsAtOnce t) t p) (λ n e.
         let within = inside_from_entry t.cols t.rows after p n e in
@@ -147,7 +148,7 @@ module _ (t : Terrain) (steps : List (Option ℕ)) (counts : AreSoundCounts t st
               let count : x.count ≡ n = same_Some x.count n (sym (entry.0 one) ∙ e) in
               rw (one, ← count) counted.walked)
           | inr ne ↦ MatchOption-at_some _ _ n
-              (sym (entry.1 (λ e2. ne (ap (λ (q : Place). index_of t.cols q) e2))) ∙ e) (counts.walked p)
+              (sym (entry.1 (λ e2. ne (ap (index_of t.cols) e2))) ∙ e) (counts.walked p)
         ]);
   }
 
@@ -174,7 +175,7 @@ module _ (t : Terrain) (c : Cutting) (lists : List (Vec (Option ℕ) Global))
   pub first_lists : AreTileLists c lists
   first_lists = record { count = count; each = λ tile list at. (sound_at tile list at).size }
 
-  module _ (whole : List (Option ℕ)) (lawful : IsCutting c) (put : IsPutBack c lists whole) where
+  module _ {whole : List (Option ℕ)} (lawful : IsCutting c) (put : IsPutBack c lists whole) where
     within : (p : Place) → IsInside t p → IsWithin c p
     within p inside = (omega (arith, inside.0, cuts.1), omega (arith, inside.1, cuts.0))
 
@@ -204,22 +205,22 @@ module _ (t : Terrain) (c : Cutting) (lists : List (Vec (Option ℕ) Global))
     }
 
 -- A list of changes stays one where a change is recorded at its end, or none.
-pub recorded : (t : Terrain) (steps : List (Option ℕ)) (old new : List Change) (x : Change) →
+pub recorded : {t : Terrain} {steps : List (Option ℕ)} (old new : List Change) {x : Change} →
     AreChanges t steps old → IsChange t steps x → (new ≡ old) ⊎ (new ≡ old ++ x ∷ []) →
     AreChanges t steps new
-recorded t steps old new x before change (inl same) =
+recorded old new before change (inl same) =
     rw same before
-recorded t steps old new x before change (inr pushed) =
+recorded {t} {steps} old new {x} before change (inr pushed) =
     rw pushed (All-push (IsChange t steps) old x before change)
 
-above_one : (m n : Option ℕ) → unwrap_or m (2 ^ 24) ≤ unwrap_or n (2 ^ 24) + 1 → IsAtMostOneAbove m n
-above_one None n le k e less = absurd (let is : unwrap_or n (2 ^ 24) ≡ k =
-    ap (λ (o : Option ℕ). unwrap_or o (2 ^ 24)) e in omega (arith, is, le, less))
-above_one (Some m) n le k e less = (let is : unwrap_or n (2 ^ 24) ≡ k =
-    ap (λ (o : Option ℕ). unwrap_or o (2 ^ 24)) e in (m, refl, omega (arith, is, le)))
+above_one : (m n : Option ℕ) → stored m ≤ stored n + 1 → IsAtMostOneAbove m n
+above_one None n le k e less = absurd (let is : stored n ≡ k =
+    ap stored e in omega (arith, is, le, less))
+above_one (Some m) n le k e less = (let is : stored n ≡ k =
+    ap stored e in (m, refl, omega (arith, is, le)))
 
 -- The last round found the codes of all tiles, and no count more than one above a neighbour's.
-module _ (t : Terrain) (c : Cutting) (steps : List (Option ℕ)) (lists : List (Vec (Option ℕ) Global))
+module _ (t : Terrain) {c : Cutting} (steps : List (Option ℕ)) (lists : List (Vec (Option ℕ) Global))
     (cuts : Cuts c t) (lawful : IsCutting c) (size : length lists ≡ tile_count c)
     (each : (k : ℕ) (list : Vec (Option ℕ) Global) → slice_get lists k ≡ Some list →
     IsMadeTile c k (IsCheckedCode t steps) list.items) where
@@ -237,8 +238,8 @@ module _ (t : Terrain) (c : Cutting) (steps : List (Option ℕ)) (lists : List (
       let at_p = data_inside t p next.from_data in
       let at_q = data_inside t q next.to_data in
       let still = still_at p at_p q (record { next = next; level = level }) in
-      let here = ap (λ (o : Option ℕ). unwrap_or o (2 ^ 24)) (entry-inside t.cols t.rows steps p at_p.0 at_p.1) in
-      let there = ap (λ (o : Option ℕ). unwrap_or o (2 ^ 24)) (entry-inside t.cols t.rows steps q at_q.0 at_q.1) in
+      let here = ap stored (entry-inside t.cols t.rows steps p at_p.0 at_p.1) in
+      let there = ap stored (entry-inside t.cols t.rows steps q at_q.0 at_q.1) in
       above_one _ _ (omega (arith, still, here, there)))
       terrain filled counts.size
 

@@ -5,7 +5,6 @@ use Rattle.std.proofs.Common.{◌≡◌, ℕ, ◌+◌, ◌*◌, ◌<◌, ◌≤�
 use Rattle.std.proofs.lemmas.Bool.{cases_eq, cases_lt, eq-eqb, eqb-true, ne_eqb, lt-ltb, le-ltb, cond-true, cond-false, false≢true}
 use Rattle.std.proofs.lemmas.List.Folds.{list_any_at}
 use Rattle.std.proofs.lemmas.List.Quantifiers.{position-Some}
-use Rattle.std.proofs.lemmas.Nat.{mul-le, mul-lt}
 use Rattle.std.proofs.lemmas.Int.{ints}
 use Rattle.terrain.specs.Raster.{IsHeight}
 use Rattle.terrain.specs.StoredCells.{no_data}
@@ -13,44 +12,18 @@ use Rattle.terrain.specs.Ways.{code_of}
 use Rattle.std.specs.Prelude.{option_map}
 use Rattle.std.specs.Bool.{then_some}
 use Rattle.std.specs.List.{list_any, position}
-use Rattle.drain.specs.Drops.{HasHeights, drop_by, drop_on, weight_on, IsGreatestFall, IsLowestWay, HasNoWayDown, IsSteepestWay, IsFirstSteepest, number_on}
+use Rattle.drain.specs.Drops.{HasHeights, drop_by, drop_on, weight_on, IsGreatestFall, HasNoWayDown, IsSteepestWay, IsFirstSteepest}
 use Rattle.drain.specs.Steepness.{positive_part, weight, weights, drop_to, leads_on, direction_of}
 use Rattle.drain.specs.Fitting.{IsFitting}
 use Rattle.drain.specs.declared.around.Around.{Around}
 use Rattle.drain.proofs.Greatest.{first_passes, fold_attained, fold-max_least, le-fold_max, none_passes, position_is}
-use Rattle.drain.proofs.Weights.{length-weights, get_or-weights, drop_from_weight}
+use Rattle.drain.proofs.Weights.{length-weights, get_or-weights, drop_from_weight, some_weight, weighed_rises, weightless}
 
 pub weight_even : (way drop : ℕ) → way % 2 ≡ 0 → weight way drop ≡ 2 * (drop * drop)
 weight_even way drop even = cond-true _ _ _ (eq-eqb _ _ even)
 
 pub weight_odd : (way drop : ℕ) → way % 2 ≡ 1 → weight way drop ≡ drop * drop
 weight_odd way drop odd = cond-false _ _ _ (ne_eqb (way % 2) 0 (λ e. omega arith))
-
-pub weightless : (way drop : ℕ) → drop ≡ 0 → weight way drop ≡ 0
-weightless way drop none = ap (weight way) none ∙ elim (cases_eq (way % 2) 0) [
-  | inl e ↦ weight_even way 0 e
-  | inr ne ↦ weight_odd way 0 (omega arith)
-]
-
-pub some_weight : (way drop : ℕ) → 0 < drop → 0 < weight way drop
-some_weight way drop some = elim (cases_lt 0 (weight way drop)) [
-  | inl above ↦ above
-  | inr none ↦ absurd (omega (arith, some, drop_from_weight way drop none))
-]
-
--- on ways of one parity a greater drop has a greater weight
-weight_rises : (k way a b : ℕ) → k % 2 ≡ way % 2 →
-    (a ≤ b → weight k a ≤ weight way b) × (a < b → weight k a < weight way b)
-weight_rises k way a b same = elim (cases_eq (way % 2) 0) [
-  | inl e ↦ (
-    λ le. omega (arith, weight_even k a (same ∙ e), weight_even way b e, mul-le a a b b le le),
-    λ lt. omega (arith, weight_even k a (same ∙ e), weight_even way b e, mul-lt a a b b lt lt),
-  )
-  | inr ne ↦ (let odd : way % 2 ≡ 1 = omega arith in (
-    λ le. omega (arith, weight_odd k a (same ∙ odd), weight_odd way b odd, mul-le a a b b le le),
-    λ lt. omega (arith, weight_odd k a (same ∙ odd), weight_odd way b odd, mul-lt a a b b lt lt),
-  ))
-]
 
 part_low : (x y : ℤ) → x ≤ℤ y → positive_part x ≤ positive_part y
 part_low (pos a) (pos b) le = omega (arith, ints)
@@ -74,92 +47,100 @@ drops level (Some g) (Some h) within = (
   λ less. part_less (level -ℤ h) (level -ℤ g) (omega (arith, ints, less)),
 )
 
--- one way more, lower than those before it or not
-pub lowest_next : (heights : List (Option ℤ)) (parity turn way next : ℕ) → next ≡ 2 * turn + parity → parity < 2 →
-    IsLowestWay heights parity turn way →
-    (number_on heights next <ℤ number_on heights way → IsLowestWay heights parity (turn + 1) next)
-    × (number_on heights way ≤ℤ number_on heights next → IsLowestWay heights parity (turn + 1) way)
-lowest_next heights parity turn way next is two low = (
-  λ less. record {
-    within = omega (arith, is, two);
-    among = omega (arith, is, two);
-    bound = λ k below e. elim (cases_eq k next) [
-      | inl here ↦ rw here (omega (arith, ints))
-      | inr ne ↦ omega (arith, ints, less, low.bound k (omega (arith, is, two, below, e, ne)) e)
-    ];
-    first = λ k under e. omega (arith, ints, less, low.bound k (omega (arith, is, two, under, e)) e);
-  },
-  λ le. record {
-    within = omega (arith, low.within);
-    among = low.among;
-    bound = λ k below e. elim (cases_eq k next) [
-      | inl here ↦ rw here le
-      | inr ne ↦ low.bound k (omega (arith, is, two, below, e, ne)) e
-    ];
-    first = low.first;
-  },
-)
+-- so is its weight, on ways of one parity
+weights_rise : (level : ℤ) (way k : ℕ) (a b : Option ℤ) → k % 2 ≡ way % 2 → IfSome b IsHeight →
+    (unwrap_or a no_data ≤ℤ unwrap_or b no_data → weight k (drop_by level b) ≤ weight way (drop_by level a))
+    × (unwrap_or a no_data <ℤ unwrap_or b no_data → 0 < weight way (drop_by level a) →
+    weight k (drop_by level b) < weight way (drop_by level a))
+weights_rise level way k a b same within =
+    let drop = drops level a b within in
+    let rises = weighed_rises (eqb (way % 2) 0) (drop_by level b) (drop_by level a) in
+    rw same (
+      λ le. rises.0 (drop.0 le),
+      λ less some. rises.1 (drop.1 less (elim (cases_eq (drop_by level a) 0) [
+        | inl none ↦ absurd (omega (arith, some, weightless way none))
+        | inr down ↦ omega (arith, down)
+      ])),
+    )
 
--- the lowest cell has the greatest drop
-pub lowest_falls : (level : ℤ) (heights : List (Option ℤ)) (parity way : ℕ) →
-    ((k : ℕ) → k < 8 → IfSome (get_or heights k None) IsHeight) → IsLowestWay heights parity 4 way →
-    IsGreatestFall level heights parity 4 way
-lowest_falls level heights parity way within low = record {
-  within = low.within;
-  among = low.among;
-  bound = λ k below e. (drops level (get_or heights way None) (get_or heights k None) (within k below)).0
-      (low.bound k below e);
-  first = λ some k less e. (drops level (get_or heights way None) (get_or heights k None)
-      (within k (omega (arith, less, low.within)))).1 (low.first k less e) some;
-}
+-- one way more, to a cell lower than those before it or not
+pub fall_next : {level : ℤ} {heights : List (Option ℤ)} {parity turn way next : ℕ} {cell other : Option ℤ} →
+    next ≡ 2 * turn + parity → parity < 2 → turn < 4 → ((k : ℕ) → k < 8 → IfSome (get_or heights k None) IsHeight) →
+    cell ≡ get_or heights way None → other ≡ get_or heights next None → IsGreatestFall level heights parity turn way →
+    (unwrap_or other no_data <ℤ unwrap_or cell no_data → IsGreatestFall level heights parity (turn + 1) next)
+    × (unwrap_or cell no_data ≤ℤ unwrap_or other no_data → IsGreatestFall level heights parity (turn + 1) way)
+fall_next {level = level} {heights = heights} {parity = parity} {way = way} {next = next} is two few within cell_is other_is fall =
+    let among : next % 2 ≡ parity = omega (arith, is, two) in
+    rw (cell_is, other_is) (
+      λ less.
+          let rises = weights_rise level next way (get_or heights next None) (get_or heights way None)
+          (fall.among ∙ sym among) (within way (omega (arith, few, fall.within))) in
+          record {
+            within = omega (arith, is, two);
+            among = among;
+            bound = λ k below e. elim (cases_eq k next) [
+              | inl here ↦ rw here (omega arith)
+              | inr ne ↦ omega (
+                arith,
+                rises.0 (omega (arith, ints, less)),
+                fall.bound k (omega (arith, is, two, below, e, ne)) e,
+              )
+            ];
+            first = λ some k under e.
+                omega (arith, rises.1 less some, fall.bound k (omega (arith, is, two, under, e)) e);
+          },
+      λ le. record {
+        within = omega (arith, fall.within);
+        among = fall.among;
+        bound = λ k below e. elim (cases_eq k next) [
+          | inl here ↦ rw here ((weights_rise level way next (get_or heights way None) (get_or heights next None)
+              (among ∙ sym fall.among) (within next (omega (arith, is, two, few)))).0 le)
+          | inr ne ↦ fall.bound k (omega (arith, is, two, below, e, ne)) e
+        ];
+        first = fall.first;
+      },
+    )
 
 -- The fall of one parity weighs no less than that of the other, and weighs more or comes first.
-module _ (level : ℤ) (heights : List (Option ℤ)) (x y way other : ℕ)
+module _ {level : ℤ} {heights : List (Option ℤ)} {x y way other : ℕ}
     (own : IsGreatestFall level heights x 4 way) (beside : IsGreatestFall level heights y 4 other)
     (apart : x + y ≡ 1) (before : (weight_on level heights other ≤ weight_on level heights way)
     × ((way ≤ other) ⊎ (weight_on level heights other < weight_on level heights way))) where
   bounded : (k : ℕ) → k < 8 → weight_on level heights k ≤ weight_on level heights way
   bounded k below = elim (cases_eq (k % 2) x) [
-    | inl e ↦ (weight_rises k way _ _ (e ∙ sym own.among)).0 (own.bound k below e)
-    | inr ne ↦ (let e : k % 2 ≡ y = omega arith in
-        omega (arith, (weight_rises k other _ _ (e ∙ sym beside.among)).0 (beside.bound k below e), before.0))
+    | inl e ↦ own.bound k below e
+    | inr ne ↦ omega (arith, beside.bound k below (omega (arith, ne, apart)), before.0)
   ]
 
   pub steepest_is : (drop : ℕ) → drop ≡ drop_on level heights way →
       IsFirstSteepest level heights (then_some (ltb 0 drop) way)
   steepest_is drop is = elim (cases_lt 0 drop) [
-    | inl some ↦ rw (lt-ltb 0 drop some) (record {
-      below = omega (arith, own.within);
-      down = omega (arith, some, is);
-      bound = bounded;
-      first = λ k less. elim (cases_eq (k % 2) x) [
-        | inl e ↦ (weight_rises k way _ _ (e ∙ sym own.among)).1 (own.first (omega (arith, some, is)) k less e)
-        | inr ne ↦ (let e : k % 2 ≡ y = omega (arith, ne, apart) in
-            let rises = weight_rises k other (drop_on level heights k) (drop_on level heights other)
-            (e ∙ sym beside.among) in
-            let le = rises.0 (beside.bound k (omega (arith, less, own.within)) e) in
-            elim before.1 [
-              | inl first ↦ elim (cases_lt 0 (drop_on level heights other)) [
-                | inl down ↦ omega (arith, rises.1 (beside.first down k (omega (arith, less, first)) e), before.0)
-                | inr flat ↦ omega (
-                  arith,
-                  le,
-                  weightless other (drop_on level heights other) (omega (arith, flat)),
-                  some_weight way (drop_on level heights way) (omega (arith, some, is)),
-                )
-              ]
-              | inr more ↦ omega (arith, le, more)
-            ])
-      ];
-    })
+    | inl some ↦ (let weighs = some_weight way (drop_on level heights way) (omega (arith, some, is)) in
+        rw (lt-ltb 0 drop some) (record {
+          below = omega (arith, own.within);
+          down = omega (arith, some, is);
+          bound = bounded;
+          first = λ k less. elim (cases_eq (k % 2) x) [
+            | inl e ↦ own.first weighs k less e
+            | inr ne ↦ (let e : k % 2 ≡ y = omega (arith, ne, apart) in
+                let le = beside.bound k (omega (arith, less, own.within)) e in
+                elim before.1 [
+                  | inl first ↦ elim (cases_lt 0 (weight_on level heights other)) [
+                    | inl down ↦ omega (arith, beside.first down k (omega (arith, less, first)) e, before.0)
+                    | inr flat ↦ omega (arith, le, flat, weighs)
+                  ]
+                  | inr more ↦ omega (arith, le, more)
+                ])
+          ];
+        }))
     | inr none ↦ rw (le-ltb 0 drop none) (record {
       each = λ k below. drop_from_weight k (drop_on level heights k)
-          (omega (arith, bounded k below, weightless way (drop_on level heights way) (omega (arith, none, is))));
+          (omega (arith, bounded k below, weightless way {drop = drop_on level heights way} (omega (arith, none, is))));
     })
   ]
 
 -- The surroundings have these heights.
-module _ (a : Around) (level : ℤ) (heights : List (Option ℤ))
+module _ {a : Around} {level : ℤ} {heights : List (Option ℤ)}
     (has : HasHeights a level heights) where
   pub drop_is : (way : ℕ) → way < 8 →
       drop_on level heights way ≡ drop_to a.level (get_or a.ways way None)
@@ -189,7 +170,7 @@ module _ (a : Around) (level : ℤ) (heights : List (Option ℤ))
   pub direction_flat : HasNoWayDown level heights →
       direction_of a ≡ cond a.edge 0 (code_of (position (leads_on a) a.ways))
   direction_flat none = cond-false _ _ _ (le-ltb 0 (fold max 0 (weights a)) (all_below 0
-      (λ way below. omega (arith, weightless way (drop_on level heights way) (none.each way below)))))
+      (λ way below. omega (arith, weightless way (none.each way below)))))
 
   pub direction_onward : (way : ℕ) → HasNoWayDown level heights → a.edge ≡ false →
       position (leads_on a) a.ways ≡ Some way → direction_of a ≡ code_of (Some way)
@@ -257,7 +238,7 @@ module _ (a : Around) (level : ℤ) (heights : List (Option ℤ))
           record {
             below = below;
             down = elim (cases_eq (drop_on level heights first.0) 0) [
-              | inl none ↦ absurd (omega (arith, weightless first.0 _ none, own, some))
+              | inl none ↦ absurd (omega (arith, weightless first.0 none, own, some))
               | inr ne ↦ omega (arith, ne)
             ];
             bound = under;

@@ -16,10 +16,10 @@ use Rattle.drain.specs.Directions.{IsCodeAt, AreDirections}
 use Rattle.drain.specs.Search.{IsCopied, count_on}
 
 -- the directions of all tiles, put together, are those of the terrain
-pub coded_whole : (t : Terrain) (c : Cutting) (lists : Vec (Vec (Option ℕ) Global) Global)
-    (whole : List (Option ℕ)) → Cuts c t → IsCutting c → AreCoded t c lists.items →
+pub coded_whole : {t : Terrain} {c : Cutting} (lists : Vec (Vec (Option ℕ) Global) Global)
+    {whole : List (Option ℕ)} → Cuts c t → IsCutting c → AreCoded t c lists.items →
     IsPutBack c lists.items whole → AreDirections t whole
-coded_whole t c lists whole cuts lawful coded put =
+coded_whole {t} {c} lists {whole} cuts lawful coded put =
     let count : vec_len lists ≡ tile_count c = omega (arith, lists.ok.0, coded.size) in
     let made = made_whole c (IsCodeAt t) (tile_count c) lists count refl
     (λ j list below. coded.each j (get_or lists.items j list)

@@ -80,7 +80,7 @@ pub place_at-index_of : (cols : ℕ) (p : Place) → p.col < cols → place_at c
 place_at-index_of cols p below = sym (same_place p (place_at cols (index_of cols p))
     (sym (div-mul-add p.row cols p.col below)) (sym (mod-mul-add p.row cols p.col below)))
 
-module _ (t : Terrain) (filled : IsFilled t t.cells) where
+module _ {t : Terrain} (filled : IsFilled t t.cells) where
   steps_in : ℕ → Option ℕ
   steps_in i = (steps_of t filled (place_at t.cols i) (height_at t (place_at t.cols i)) refl).0
 
@@ -105,11 +105,10 @@ module _ (t : Terrain) (filled : IsFilled t t.cells) where
   pub has_direction : (p : Place) → IsDataCell t p → (code : ℕ) × IsDirection t p code
       × ((other : ℕ) → IsDirection t p other → other ≡ code)
   has_direction p is =
-      let n = steps_at t all_steps p are_steps is in
+      let n = steps_at p are_steps is in
       let code = direction_of (around_with t all_steps p (height_of t p) n.0 (is_end_cell t p)) in
       let direction : IsDirection t p code =
-      direction_is t all_steps p
-      (around_with t all_steps p (height_of t p) n.0 (is_end_cell t p)) are_steps
+      direction_is are_steps
       (record {
         laid = laid_with t all_steps p (height_of t p) n.0 (is_end_cell t p) (height_is t p is) n.1;
         edge = (end_true t p, true_end t p);

@@ -1,7 +1,7 @@
 -- Each of the eight ways from a cell has the weight of its drop, which is 0 only for no drop.
-use Rattle.std.proofs.Common.{◌≡◌, ℕ, ◌+◌, ◌*◌, ◌<◌, ◌≤◌, ◌%◌, eqb, length, get_or, Option, None, ℤ, ap, ◌∙◌, arith, inl, inr}
-use Rattle.std.proofs.Math.Nat.{mul-le-mul_right}
-use Rattle.std.proofs.lemmas.Bool.{cases_Bool, cond-true, cond-false, cases_eq}
+use Rattle.std.proofs.Common.{◌≡◌, ℕ, ◌+◌, ◌*◌, ◌<◌, ◌≤◌, ◌%◌, Bool, true, false, cond, eqb, length, get_or, Option, None, ℤ, ap, refl, ◌∙◌, arith, inl, inr}
+use Rattle.std.proofs.lemmas.Bool.{cases_eq}
+use Rattle.std.proofs.lemmas.Nat.{mul-le, mul-lt}
 use Rattle.std.proofs.lemmas.List.{get_or-map, length-map}
 use Rattle.std.proofs.lemmas.List.FromFn.{length-enumerate_from, get_or-enumerate_from}
 use Rattle.std.specs.List.{enumerate_from}
@@ -28,18 +28,28 @@ get_or-weights a k h =
     ∙ ap (own_weight a) (get_or-enumerate_from 0 a.ways k no_way h)
     ∙ ap (λ way. weight way (drop_to a.level (get_or a.ways k None))) zero_and
 
-pub square-above_zero : (n : ℕ) → 1 ≤ n → 1 ≤ n * n
-square-above_zero n h = let more : 1 * n ≤ n * n = mul-le-mul_right n h in omega arith
+-- the weight of a drop on an even way or on an odd one
+abbrev pub weighed : Bool → ℕ → ℕ
+weighed even drop = cond even (2 * (drop * drop)) (drop * drop)
+
+pub weighed_rises : (even : Bool) (a b : ℕ) →
+    (a ≤ b → weighed even a ≤ weighed even b) × (a < b → weighed even a < weighed even b)
+weighed_rises true a b = (λ le. omega (arith, mul-le a a b b le le), λ lt. omega (arith, mul-lt a a b b lt lt))
+weighed_rises false a b = (λ le. mul-le a a b b le le, λ lt. mul-lt a a b b lt lt)
+
+pub weightless : (way : ℕ) {drop : ℕ} → drop ≡ 0 → weight way drop ≡ 0
+weightless way none = ap (weight way) none ∙ nothing (eqb (way % 2) 0)
+  where
+    nothing : (even : Bool) → weighed even 0 ≡ 0
+    nothing true = refl
+    nothing false = refl
+
+pub some_weight : (way drop : ℕ) → 0 < drop → 0 < weight way drop
+some_weight way drop some =
+    omega (arith, weightless way refl, (weighed_rises (eqb (way % 2) 0) 0 drop).1 some)
 
 pub drop_from_weight : (way drop : ℕ) → weight way drop ≤ 0 → drop ≡ 0
-drop_from_weight way drop h =
-    elim (cases_eq drop 0) [ inl e ↦ e | inr ne ↦ absurd (weighs way drop (omega arith) h) ]
-  where
-    weighs : (way drop : ℕ) → 1 ≤ drop → weight way drop ≤ 0 → ⊥
-    weighs way drop some low =
-        let square : 1 ≤ drop * drop = square-above_zero drop some in
-        elim (cases_Bool (eqb (way % 2) 0)) [
-          | inl e ↦
-              (let is : weight way drop ≡ 2 * (drop * drop) = cond-true _ _ _ e in omega arith)
-          | inr e ↦ (let is : weight way drop ≡ drop * drop = cond-false _ _ _ e in omega arith)
-        ]
+drop_from_weight way drop low = elim (cases_eq drop 0) [
+  | inl none ↦ none
+  | inr some ↦ absurd (omega (arith, low, some_weight way drop (omega (arith, some))))
+]

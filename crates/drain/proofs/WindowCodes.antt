@@ -28,7 +28,7 @@ use Rattle.drain.proofs.AroundLemmas.{steps_at}
 use Rattle.drain.proofs.Laid.{LeadsOn, code_is, down_is, leads, onward_is, outlet_is, with_steps, without_steps}
 use Rattle.drain.proofs.Quiet.{if_some}
 use Rattle.drain.proofs.Spreading.{spot_from_inner}
-use Rattle.drain.specs.Search.{AreEntriesShown, level_on}
+use Rattle.drain.specs.Search.{AreEntriesShown, level_on, stored}
 use Rattle.drain.proofs.Pointing.{next_on_way}
 use Rattle.drain.proofs.Sound.{known_counted, lower_change, small}
 use Rattle.drainage.proofs.Reach.{data_inside}
@@ -46,7 +46,7 @@ fits_on t (Some q) lawful =
 -- a spot has the height of the place that it shows
 pub shown_height : (w : CountedSpots) (s p : Place) → AreCountedSpots w → IsInner w.bounds s →
     Shows w.bounds s p → level_on w.bounds w.levels s ≡ height_at w.terrain p
-shown_height w s p are inner shows = (are.levels s (spot_from_inner w.bounds s inner)).0 p shows
+shown_height w s p are inner shows = (are.levels s (spot_from_inner inner)).0 p shows
 
 -- The data cell p has height `level` and count `own`. The lists have heights and counts on its ways, at
 -- the indexes `at`.
@@ -61,39 +61,35 @@ pub record IsSeen (t : Terrain) (all : List (Option ℕ)) (p : Place) (cells : L
       get_or steps (get_or at way 0) None ≡ entry_on t.cols t.rows all way p
 
 stored_is : (t : Terrain) (all : List (Option ℕ)) (q : Place) → IsDataCell t q →
-    unwrap_or (entry_at t.cols t.rows all q) no_count ≡ count_of all (index_of t.cols q)
+    stored (entry_at t.cols t.rows all q) ≡ count_of all (index_of t.cols q)
 stored_is t all q is = let inside = data_inside t q is in
-    ap (λ (o : Option ℕ). unwrap_or o no_count) (entry-inside t.cols t.rows all q inside.0 inside.1)
+    ap stored (entry-inside t.cols t.rows all q inside.0 inside.1)
 
-pub seen : (v w : CountedSpots) (s p : Place) (cells : List (Option ℤ)) (steps : List (Option ℕ)) (at : List ℕ)
-    (level : ℤ) (own : ℕ) → v ≡ w → AreCountedSpots v → IsInner w.bounds s → Shows w.bounds s p →
+pub seen : {v w : CountedSpots} {s : Place} {cells : List (Option ℤ)} {steps : List (Option ℕ)} {at : List ℕ}
+    {level : ℤ} {own : ℕ} (p : Place) → v ≡ w → AreCountedSpots v → IsInner w.bounds s → Shows w.bounds s p →
     cells ≡ v.levels → steps ≡ v.steps → at ≡ around_index (v.bounds.cols + 2) (spot_index v.bounds s) →
     level_on w.bounds w.levels s ≡ Some level → own ≡ stored_on w s →
     IsSeen w.terrain w.all p cells steps at level own
-seen v w s p cells steps at level own same of_v inner shows cells_are steps_are at_is here count =
-    let are = subst AreCountedSpots same of_v in
-    let around = at_is ∙ ap (λ (x : CountedSpots). around_index (x.bounds.cols + 2) (spot_index x.bounds s)) same in
+seen {w = w} {s = s} {cells = cells} {steps = steps} {at = at} p same of_v inner shows levels_are steps_are at_is here
+    count =
+    let are = rw same at of_v in
+    let around = rw same at at_is in
     let t = w.terrain in
     let high = sym (shown_height w s p are inner shows) ∙ here in
     record {
       lawful = are.lawful;
       counts = are.counts;
       high = high;
-      count = count ∙ ap (λ (o : Option ℕ). unwrap_or o no_count)
-          ((are.steps s (spot_from_inner w.bounds s inner)).0 p shows) ∙ stored_is t w.all p (ap is_some high);
+      count = count ∙ ap stored ((are.steps s (spot_from_inner inner)).0 p shows)
+          ∙ stored_is t w.all p (ap is_some high);
       levels = value_on_way w.bounds s p inner shows t.cols t.rows t.cells cells at
-          (subst (AreEntriesShown t t.cells w.bounds)
-          (sym (cells_are ∙ ap (λ (x : CountedSpots). x.levels) same)) are.levels) around;
+          (rw (rw same at levels_are) are.levels) around;
       known = value_on_way w.bounds s p inner shows t.cols t.rows w.all steps at
-          (subst (AreEntriesShown t w.all w.bounds)
-          (sym (steps_are ∙ ap (λ (x : CountedSpots). x.steps) same)) are.steps) around;
+          (rw (rw same at steps_are) are.steps) around;
     }
 
-module _ (t : Terrain) (all : List (Option ℕ)) (p : Place) (cells : List (Option ℤ)) (steps : List (Option ℕ))
-    (at : List ℕ) (level : ℤ) (own : ℕ) (is : IsSeen t all p cells steps at level own) where
-  abbrev height_of_place : Option Place → Option ℤ
-  height_of_place o = option_and_then (λ q. entry_at t.cols t.rows t.cells q) o
-
+module _ {t : Terrain} {all : List (Option ℕ)} {p : Place} {cells : List (Option ℤ)} {steps : List (Option ℕ)}
+    {at : List ℕ} {level : ℤ} {own : ℕ} (is : IsSeen t all p cells steps at level own) where
   pub heights_within : (way : ℕ) → way < 8 → IfSome (level_at cells at way) IsHeight
   heights_within way below = rw (is.levels way below) (fits_on t (place_on way p) is.lawful)
 
@@ -101,18 +97,16 @@ module _ (t : Terrain) (all : List (Option ℕ)) (p : Place) (cells : List (Opti
   is_data = ap is_some is.high
 
   known_on : (way : ℕ) (q : Place) → way < 8 → place_on way p ≡ Some q →
-      stored_at steps at way ≡ unwrap_or (entry_at t.cols t.rows all q) no_count
-  known_on way q below e = ap (λ (o : Option ℕ). unwrap_or o no_count) (is.known way below
-      ∙ ap (λ (o : Option Place). option_and_then (λ r. entry_at t.cols t.rows all r) o) e)
+      stored_at steps at way ≡ stored (entry_at t.cols t.rows all q)
+  known_on way q below e = ap stored (rw e at (is.known way below))
 
   -- a count that is at most one above those around the cell in the lists is so in the grid
   pub still : IsStillAround cells steps at (Some level) own → IsStill t all p
   still around q side =
       let way = way_to p q side.next.touches side.next.different in
-      let level_q = is.levels way.0 way.1 ∙ ap height_of_place way.2 ∙ side.level ∙ is.high in
       omega (
         arith,
-        around way.0 way.1 level_q,
+        around way.0 way.1 ((rw way.2 at (is.levels way.0 way.1)) ∙ side.level ∙ is.high),
         known_on way.0 q way.1 way.2,
         stored_is t all q side.next.to_data,
         is.count,
@@ -128,40 +122,40 @@ module _ (t : Terrain) (all : List (Option ℕ)) (p : Place) (cells : List (Opti
       let same : k + 1 ≡ n = omega (arith, n_is, known_on way q below e, stored_is t all q data_q) in
       let few : k < 2 ^ 24 = omega (arith, less, same, is.count, small t all (index_of t.cols p) is.counts) in
       let next = next_on_way t p q way below e is_data data_q in
-      rw (← same) (lower_change t all (record { place = q; count = k }) p is.counts
+      rw (← same) (lower_change is.counts
       (known_counted t all q k is.counts (data_inside t q data_q) refl few) (data_inside t p is_data)
       next.touches next.different (height_q ∙ sym is.high) (omega (arith, less, same, is.count))))
 
   module _ (are : AreSteps t all) where
     own_steps : entry_at t.cols t.rows all p ≡ Some own
-    own_steps = let n = steps_at t all p are is_data in
+    own_steps = let n = steps_at p are is_data in
         n.1 ∙ ap Some (sym (is.count ∙ sym (stored_is t all p is_data)
-        ∙ ap (λ (o : Option ℕ). unwrap_or o no_count) n.1))
+        ∙ ap stored n.1))
 
     down : (heights : List (Option ℤ)) → ((way : ℕ) → way < 8 → get_or heights way None ≡ level_at cells at way) →
         (found : Option ℕ) → IsFirstSteepest level heights found → own ≡ 0 → IsDirection t p (code_of found)
     down heights same None none zero = outlet_is t p level heights is.high
         (λ way below. same way below ∙ is.levels way below) none
-        (without_steps t all p own are is_data own_steps zero)
+        (without_steps p own are is_data own_steps zero)
     down heights same (Some way) steepest zero = down_is t p level heights is.high
         (λ way below. same way below ∙ is.levels way below) way steepest
 
     stays : 0 < own → DrainsAtOnce t p → ⊥
-    stays some = with_steps t all p own are is_data own_steps some
+    stays some = with_steps p own are is_data own_steps some
 
     -- a way leads on in the lists as it does in the grid
     in_lists : (way : ℕ) (q : Place) → way < 8 → place_on way p ≡ Some q → LeadsOn t all p own q →
         IsOnwardWay cells steps at (Some level) own way
     in_lists way q below e (high, m, there, one) = (
-      is.levels way below ∙ ap height_of_place e ∙ high ∙ is.high,
-      omega (arith, one, known_on way q below e, ap (λ (o : Option ℕ). unwrap_or o no_count) there),
+      (rw e at (is.levels way below)) ∙ high ∙ is.high,
+      omega (arith, one, known_on way q below e, ap stored there),
     )
 
     in_grid : (way : ℕ) → way < 8 → IsOnwardWay cells steps at (Some level) own way →
         (q : Place) × (place_on way p ≡ Some q) × LeadsOn t all p own q
     in_grid way below (high, count) = option_and_then_some (λ q. entry_at t.cols t.rows t.cells q)
         (place_on way p) level (sym (is.levels way below) ∙ high) (λ q e height_q.
-        let m = steps_at t all q are (ap is_some height_q) in (
+        let m = steps_at q are (ap is_some height_q) in (
           q,
           e,
           (
@@ -172,18 +166,18 @@ module _ (t : Terrain) (all : List (Option ℕ)) (p : Place) (cells : List (Opti
               arith,
               count,
               known_on way q below e,
-              ap (λ (o : Option ℕ). unwrap_or o no_count) m.1,
+              ap stored m.1,
             ),
           ),
         ))
 
     onward : (found : Option ℕ) → IsFirstWay (IsOnwardWay cells steps at (Some level) own) 0 found → 0 < own →
         IsDirection t p (code_of found)
-    onward None none some = let q = leads t all p own are is_data own_steps (stays some) in
+    onward None none some = let q = leads p own are is_data own_steps (stays some) in
         absurd (none q.1 (omega arith) q.2 (in_lists q.1 q.0 q.2 q.3 q.4))
     onward (Some way) (below, on, first) some =
         let q = in_grid way below on in
-        onward_is t all p own are is_data own_steps q.0 way below q.1 q.2
+        onward_is p own are is_data own_steps q.0 way below q.1 q.2
         (λ k r small e leads. first k (omega arith) small (in_lists k r small e leads)) (stays some)
 
   -- the code of the cell is checked
@@ -219,7 +213,7 @@ pub checked_all : (c : Counted) (outs : List TileCodes) (found : Checked) → le
     ((tile : ℕ) (out : TileCodes) → tile < tile_count c.cutting → IsTileCodes c tile (get_or outs tile out)) →
     AreAll outs found → IsChecked c found
 checked_all c outs (LastCodes lists) size given all =
-    let same : length outs ≡ length lists.items = ap (λ (xs : List TileCodes). length xs) all
+    let same : length outs ≡ length lists.items = ap length all
     ∙ length-map lists.items (λ (list : Vec (Option ℕ) Global). Codes list) in (
       sym same ∙ size,
       λ k list at.

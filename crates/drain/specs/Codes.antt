@@ -2,7 +2,7 @@
 -- above that of a neighbour of equal height. A job has the heights and counts at the spots of a
 -- tile's window: the tile and one row or column on each side.
 -- Private.
-use Rattle.std.specs.Prelude.{◌≡◌, ℕ, ◌+◌, ◌*◌, ◌<◌, ◌≤◌, ℤ, List, Vec, Option, None, Some, length, map, slice_get, slice_index_or, unwrap_or}
+use Rattle.std.specs.Prelude.{◌≡◌, ℕ, ◌+◌, ◌*◌, ◌<◌, ◌≤◌, ℤ, List, Vec, Option, None, Some, length, map, slice_get, slice_index_or}
 use Rattle.std.specs.declared.alloc.Global.{Global}
 use Rattle.terrain.specs.Raster.{Terrain, IsTerrain}
 use Rattle.terrain.specs.Ways.{code_of}
@@ -11,9 +11,8 @@ use Rattle.tiles.specs.declared.bounds.Bounds.{Bounds}
 use Rattle.tiles.specs.Windows.{spot_index}
 use Rattle.tiles.specs.Cutting.{tile_count}
 use Rattle.tile_maps.specs.Maps.{IsMadeTile, IsMadeUpTo}
-use Rattle.drainage.specs.StepCounts.{no_count}
 use Rattle.drain.specs.Counts.{AreSoundCounts, Counted, IsChange, IsCheckedCode}
-use Rattle.drain.specs.Search.{AreEntriesShown}
+use Rattle.drain.specs.Search.{AreEntriesShown, stored}
 use Rattle.drain.specs.Drops.{IsFirstSteepest}
 use Rattle.drain.specs.declared.codes.Checked.{Checked}
 use Rattle.drain.specs.declared.codes.Checked.TheVariants as checked
@@ -38,7 +37,7 @@ pub record AreCountedSpots (w : CountedSpots) : Type 0 where
 
 -- The count at a spot, 2^24 if none is known.
 abbrev pub stored_on : CountedSpots → Place → ℕ
-stored_on w s = unwrap_or (slice_index_or w.steps (spot_index w.bounds s) None) no_count
+stored_on w s = stored (slice_index_or w.steps (spot_index w.bounds s) None)
 
 -- The height on a way. For each way, `at` has its index in the list `cells`.
 abbrev pub level_at : List (Option ℤ) → List ℕ → ℕ → Option ℤ
@@ -46,7 +45,7 @@ level_at cells at way = slice_index_or cells (slice_index_or at way 0) None
 
 -- The count on a way, 2^24 if none is known. For each way, `at` has its index in the list `steps`.
 abbrev pub stored_at : List (Option ℕ) → List ℕ → ℕ → ℕ
-stored_at steps at way = unwrap_or (slice_index_or steps (slice_index_or at way 0) None) no_count
+stored_at steps at way = stored (slice_index_or steps (slice_index_or at way 0) None)
 
 -- The count `own` is at most one above those on the ways at the height `level`.
 abbrev pub IsStillAround : List (Option ℤ) → List (Option ℕ) → List ℕ → Option ℤ → ℕ → Type 0

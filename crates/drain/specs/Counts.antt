@@ -1,7 +1,7 @@
 -- Counts of steps between rounds, and the lower counts that a round finds. A count is the fewest
 -- moves at one filled height, found so far, from a cell to one that drains at once, or unknown.
 -- Private.
-use Rattle.std.specs.Prelude.{◌≡◌, ℕ, ◌+◌, ◌*◌, ◌^◌, ◌<◌, ◌≤◌, All, List, Vec, length, Option, None, Some, slice_get, slice_index_or, unwrap_or}
+use Rattle.std.specs.Prelude.{◌≡◌, ℕ, ◌+◌, ◌*◌, ◌<◌, ◌≤◌, All, List, Vec, length, Option, None, Some, slice_get, slice_index_or}
 use Rattle.std.specs.declared.alloc.Global.{Global}
 use Rattle.terrain.specs.Raster.{Terrain, IsTerrain}
 use Rattle.terrain.specs.Neighbours.{height_at, index_of, IsInside, IsNeighbour}
@@ -11,6 +11,7 @@ use Rattle.tiles.specs.Cutting.{Cutting, Cuts, longest_axis, tile_count}
 use Rattle.tile_maps.specs.Maps.{IsMadeTile}
 use Rattle.tile_jobs.specs.Sums.{sum_below}
 use Rattle.drain.specs.Beginning.{HasZeros}
+use Rattle.drain.specs.Search.{stored}
 use Rattle.drain.specs.Directions.{IsCodeAt}
 use Rattle.drain.specs.Rounds.{AreWalked, IsWalked}
 use Rattle.drain.specs.Steps.{AreSteps, DrainsAtOnce}
@@ -27,7 +28,7 @@ pub record AreSoundCounts (t : Terrain) (steps : List (Option ℕ)) : Type 0 whe
 
 -- The count at a row-order index, 2^24 if none is known.
 abbrev pub count_of : List (Option ℕ) → ℕ → ℕ
-count_of steps k = unwrap_or (slice_index_or steps k None) (2 ^ 24)
+count_of steps k = stored (slice_index_or steps k None)
 
 -- The sum of all counts, where an unknown one counts as 2^24.
 abbrev pub count_sum : List (Option ℕ) → ℕ

@@ -1,8 +1,7 @@
 -- The steepest way down by the eight heights around a cell. Ways are the eight directions, from 0
 -- to 7 in code order.
 -- Private.
-use Rattle.std.specs.Prelude.{◌≡◌, ℕ, ◌%◌, ◌<◌, ◌≤◌, ◌*◌, ℤ, ◌-ℤ◌, ◌≤ℤ◌, ◌<ℤ◌, List, length, Option, None, Some, option_map, slice_index_or, unwrap_or}
-use Rattle.terrain.specs.StoredCells.{no_data}
+use Rattle.std.specs.Prelude.{◌≡◌, ℕ, ◌%◌, ◌<◌, ◌≤◌, ◌*◌, ℤ, ◌-ℤ◌, List, length, Option, None, Some, option_map, slice_index_or}
 use Rattle.drain.specs.Steepness.{positive_part, weight}
 use Rattle.drain.specs.declared.around.Around.{Around}
 
@@ -22,34 +21,20 @@ pub record HasHeights (a : Around) (level : ℤ) (heights : List (Option ℤ)) :
 abbrev pub drop_on : ℤ → List (Option ℤ) → ℕ → ℕ
 drop_on level heights way = drop_by level (slice_index_or heights way None)
 
--- The stored number of the height on `way`; above each height if the way has none.
-abbrev pub number_on : List (Option ℤ) → ℕ → ℤ
-number_on heights way = unwrap_or (slice_index_or heights way None) no_data
+-- The weight of the drop on a way.
+abbrev pub weight_on : ℤ → List (Option ℤ) → ℕ → ℕ
+weight_on level heights way = weight way (drop_on level heights way)
 
--- Of the ways of one parity below `2 * end`, `way` is the first with the lowest height. Even ways
--- lead along a row or column, odd ones along a diagonal.
-pub record IsLowestWay (heights : List (Option ℤ)) (parity end way : ℕ) : Type 0 where
-  pub within : way < 2 * end
-  pub among : way % 2 ≡ parity
-  pub bound : (other : ℕ) → other < 2 * end → other % 2 ≡ parity →
-      number_on heights way ≤ℤ number_on heights other
-  pub first : (other : ℕ) → other < way → other % 2 ≡ parity →
-      number_on heights way <ℤ number_on heights other
-
--- Of the ways of one parity below `2 * end`, `way` has the greatest drop, and is the first with it
--- if it leads down.
+-- Of the ways of one parity below `2 * end`, `way` has the drop of the greatest weight, and is the
+-- first with it if it leads down. Even ways lead along a row or column, odd ones along a diagonal.
 pub record IsGreatestFall (level : ℤ) (heights : List (Option ℤ))
     (parity end way : ℕ) : Type 0 where
   pub within : way < 2 * end
   pub among : way % 2 ≡ parity
   pub bound : (other : ℕ) → other < 2 * end → other % 2 ≡ parity →
-      drop_on level heights other ≤ drop_on level heights way
-  pub first : 0 < drop_on level heights way → (other : ℕ) → other < way → other % 2 ≡ parity →
-      drop_on level heights other < drop_on level heights way
-
--- The weight of the drop on a way.
-abbrev pub weight_on : ℤ → List (Option ℤ) → ℕ → ℕ
-weight_on level heights way = weight way (drop_on level heights way)
+      weight_on level heights other ≤ weight_on level heights way
+  pub first : 0 < weight_on level heights way → (other : ℕ) → other < way → other % 2 ≡ parity →
+      weight_on level heights other < weight_on level heights way
 
 -- No way leads down.
 pub record HasNoWayDown (level : ℤ) (heights : List (Option ℤ)) : Type 0 where

@@ -7,7 +7,7 @@ ghost use Rattle.std.specs.Prelude.{◌≡◌, ◌+◌, ◌<◌, ◌≤◌, ◌�
 ghost use Rattle.terrain.specs.Neighbours.{Touches};
 ghost use Rattle.terrain.specs.declared.place.Place.{Place};
 ghost use Rattle.tiles.specs.Windows.{area_of, spot_index, IsSpot, IsInner};
-ghost use Rattle.drain.specs.Search.{AreAtMostNoCount, AreSettled, level_on, count_on, IsLeastAlong, IsLowering, IsNear, IsPulled, IsSearched, IsSpread};
+ghost use Rattle.drain.specs.Search.{AreAtMostNoCount, AreSettled, height_on, count_on, IsLeastAlong, IsLowering, IsNear, IsPulled, IsSearched, IsSpread};
 
 use std::alloc::{AllocError, Global};
 use terrain::{Cell, Place};
@@ -18,8 +18,7 @@ use tiles::Window;
 fn is_level(window: &Window<Cell>, spot: Place, other: Place) -> bool
     requires spot { IsSpot window.now.bounds spot }
     requires other { IsSpot window.now.bounds other }
-    ensures { IsTrue result ↔ (level_on window.now.bounds window.now.values.items spot
-        ≡ level_on window.now.bounds window.now.values.items other) }
+    ensures { IsTrue result ↔ (height_on window.now spot ≡ height_on window.now other) }
 {
     window.values[window.index(spot)].is_level_with(window.values[window.index(other)])
 }
@@ -32,10 +31,9 @@ fn lesser(window: &Window<Cell>, counts: &[u32], spot: Place, level: Cell, bound
     requires counts { AreAtMostNoCount counts.now }
     requires spot { IsSpot window.now.bounds spot }
     ensures bound { result ≤ bound }
-    ensures each { level_on window.now.bounds window.now.values.items spot ≡ level →
+    ensures each { height_on window.now spot ≡ level →
         result ≤ count_on window.now.bounds counts.now spot + 1 }
-    ensures one { (result ≡ bound)
-        ⊎ ((level_on window.now.bounds window.now.values.items spot ≡ level)
+    ensures one { (result ≡ bound) ⊎ ((height_on window.now spot ≡ level)
         × (result ≡ count_on window.now.bounds counts.now spot + 1) × (result < bound)) }
 {
     let index = window.index(spot);
@@ -65,8 +63,7 @@ fn least_of_three(
     requires counts { AreAtMostNoCount counts.now }
     requires from { (from.row < window.now.bounds.rows + 2)
         × (from.col + 2 < window.now.bounds.cols + 2) }
-    ensures { IsLeastAlong window.now.bounds window.now.values.items counts.now from (from.col + 3)
-        level bound result }
+    ensures { IsLeastAlong window.now counts.now from (from.col + 3) level bound result }
 {
     let mut least = bound;
     for col in from.col..from.col + 3 {
@@ -84,12 +81,10 @@ fn least_around(window: &Window<Cell>, counts: &[u32], spot: Place, bound: u32) 
     requires spot { IsInner window.now.bounds spot }
     ensures bound { result ≤ bound }
     ensures each { (r : Place) → Touches spot r →
-        level_on window.now.bounds window.now.values.items r
-        ≡ level_on window.now.bounds window.now.values.items spot →
+        height_on window.now r ≡ height_on window.now spot →
         result ≤ count_on window.now.bounds counts.now r + 1 }
     ensures one { (result ≡ bound) ⊎ ((r : Place) × IsSpot window.now.bounds r × Touches r spot
-        × (level_on window.now.bounds window.now.values.items r
-        ≡ level_on window.now.bounds window.now.values.items spot)
+        × (height_on window.now r ≡ height_on window.now spot)
         × (result ≡ count_on window.now.bounds counts.now r + 1) × (result < bound)) }
 {
     let level = window.values[window.index(spot)];
@@ -114,7 +109,7 @@ fn reach(
     requires counts { AreAtMostNoCount counts.old }
     requires from { IsSpot window.now.bounds from }
     requires to { IsSpot window.now.bounds to × Touches from to }
-    ensures { OnOk result (IsLowering window.now.bounds window.now.values.items
+    ensures { OnOk result (IsLowering window.now
         counts.old counts.new reached.old.items reached.new.items) }
 {
     let next = counts[window.index(from)] + 1;
@@ -144,7 +139,7 @@ fn spread_along(
     requires counts { AreAtMostNoCount counts.old }
     requires spot { IsInner window.now.bounds spot }
     requires row { (row ≤ spot.row + 1) × (spot.row ≤ row + 1) }
-    ensures { OnOk result (IsLowering window.now.bounds window.now.values.items
+    ensures { OnOk result (IsLowering window.now
         counts.old counts.new reached.old.items reached.new.items) }
 {
     for col in spot.col - 1..spot.col + 2 {
@@ -166,7 +161,7 @@ fn spread(
     requires size { length counts.old ≡ area_of window.now.bounds }
     requires counts { AreAtMostNoCount counts.old }
     requires spot { IsInner window.now.bounds spot }
-    ensures { OnOk result (IsLowering window.now.bounds window.now.values.items
+    ensures { OnOk result (IsLowering window.now
         counts.old counts.new reached.old.items reached.new.items) }
 {
     for row in spot.row - 1..spot.row + 2 {
@@ -176,7 +171,7 @@ fn spread(
 }
 
 /// Spreads from each queued spot in order, also from spots queued meanwhile.
-#[tactic(auto, using(crate::proofs::Spreading::spread_none, crate::proofs::Spreading::spread_counts, crate::proofs::Spreading::sum_spread))]
+#[tactic(auto, using(crate::proofs::Spreading::spread_counts, crate::proofs::Spreading::sum_spread))]
 fn search(
     window: &Window<Cell>,
     counts: &mut [u32],
@@ -185,8 +180,7 @@ fn search(
     requires size { length counts.old ≡ area_of window.now.bounds }
     requires counts { AreAtMostNoCount counts.old }
     requires inner { All (IsInner window.now.bounds) reached.items }
-    ensures { OnOk result
-        (IsSpread window.now.bounds window.now.values.items counts.old counts.new) }
+    ensures { OnOk result (IsSpread window.now counts.old counts.new) }
 {
     let mut done = 0;
     while done < reached.len() {
@@ -213,12 +207,10 @@ fn pull_at(
         × (length counts.old ≡ area_of window.now.bounds) }
     requires counts { AreAtMostNoCount old.now }
     requires spot { IsInner window.now.bounds spot }
-    requires before { IsPulled window.now.bounds window.now.values.items old.now counts.old
-        reached.old.items }
-    ensures pulled { OnOk result (IsPulled window.now.bounds window.now.values.items old.now
-        counts.new reached.new.items) }
+    requires before { IsPulled window.now old.now counts.old reached.old.items }
+    ensures pulled { OnOk result (IsPulled window.now old.now counts.new reached.new.items) }
     ensures near { OnOk result (reached.new.items ≡ [] → (reached.old.items ≡ [])
-        × IsNear window.now.bounds window.now.values.items old.now spot) }
+        × IsNear window.now old.now spot) }
 {
     let index = window.index(spot);
     let own = counts[index];
@@ -245,13 +237,10 @@ fn pull_along(
         × (length counts.old ≡ area_of window.now.bounds) }
     requires counts { AreAtMostNoCount old.now }
     requires row { (1 ≤ row) × (row ≤ window.now.bounds.rows) }
-    requires before { IsPulled window.now.bounds window.now.values.items old.now counts.old
-        reached.old.items }
-    ensures pulled { OnOk result (IsPulled window.now.bounds window.now.values.items old.now
-        counts.new reached.new.items) }
+    requires before { IsPulled window.now old.now counts.old reached.old.items }
+    ensures pulled { OnOk result (IsPulled window.now old.now counts.new reached.new.items) }
     ensures near { OnOk result (reached.new.items ≡ [] → (reached.old.items ≡ [])
-        × ((s : Place) → IsInner window.now.bounds s → s.row ≡ row →
-        IsNear window.now.bounds window.now.values.items old.now s)) }
+        × ((s : Place) → IsInner window.now.bounds s → s.row ≡ row → IsNear window.now old.now s)) }
 {
     for col in 1..window.bounds.cols + 1 {
         pull_at(window, old, counts, reached, Place { row, col })?;
@@ -269,10 +258,8 @@ fn pull(
     requires size { length old.now ≡ area_of window.now.bounds }
     requires counts { AreAtMostNoCount old.now }
     requires same { counts.old ≡ old.now }
-    ensures pulled { IfOk result (λ reached. IsPulled window.now.bounds window.now.values.items
-        old.now counts.new reached.items) }
-    ensures settled { IfOk result (λ reached. reached.items ≡ [] →
-        AreSettled window.now.bounds window.now.values.items old.now) }
+    ensures pulled { IfOk result (λ reached. IsPulled window.now old.now counts.new reached.items) }
+    ensures settled { IfOk result (λ reached. reached.items ≡ [] → AreSettled window.now old.now) }
 {
     let mut reached = Vec::new(alloc);
     for row in 1..window.bounds.rows + 1 {
@@ -290,11 +277,9 @@ fn lowered(
 ) -> Result<Option<Vec<u32>>, AllocError>
     requires size { length old.now ≡ area_of window.now.bounds }
     requires counts { AreAtMostNoCount old.now }
-    ensures lower { IfOk result (λ found. IfSome found (λ new.
-        IsSpread window.now.bounds window.now.values.items old.now new.items
+    ensures lower { IfOk result (λ found. IfSome found (λ new. IsSpread window.now old.now new.items
         × (sum new.items < sum old.now))) }
-    ensures settled { IfOk result (λ found. found ≡ None →
-        AreSettled window.now.bounds window.now.values.items old.now) }
+    ensures settled { IfOk result (λ found. found ≡ None → AreSettled window.now old.now) }
 {
     let mut counts = Vec::from_slice(alloc, old)?;
     let reached = pull(alloc, window, old, &mut counts)?;
@@ -313,8 +298,7 @@ pub(crate) fn searched(
 ) -> Result<Vec<u32>, AllocError>
     requires size { length counts.items ≡ area_of window.now.bounds }
     requires counts { AreAtMostNoCount counts.items }
-    ensures { IfOk result (λ new.
-        IsSpread window.now.bounds window.now.values.items counts.items new.items) }
+    ensures { IfOk result (λ new. IsSpread window.now counts.items new.items) }
 {
     match lowered(alloc, window, &counts)? {
         Some(lower) => Ok(lower),
@@ -330,8 +314,7 @@ pub(crate) fn settled(
 ) -> Result<Vec<u32>, AllocError>
     requires size { length counts.items ≡ area_of window.now.bounds }
     requires counts { AreAtMostNoCount counts.items }
-    ensures { IfOk result (λ new.
-        IsSearched window.now.bounds window.now.values.items counts.items new.items) }
+    ensures { IfOk result (λ new. IsSearched window.now counts.items new.items) }
 {
     loop {
         match lowered(alloc, window, &counts)? {

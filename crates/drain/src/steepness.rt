@@ -10,7 +10,7 @@ ghost use Rattle.std.specs.List.{list_any};
 ghost use Rattle.std.specs.Option.{option_zip};
 ghost use Rattle.terrain.specs.Raster.{IsHeight, greatest_drop};
 ghost use Rattle.drain.specs.Steepness.{direction_of, leads_on};
-ghost use Rattle.drain.specs.Drops.{HasHeights, IsFirstSteepest, IsGreatestFall, IsLowestWay, drop_by, drop_on};
+ghost use Rattle.drain.specs.Drops.{HasHeights, IsFirstSteepest, IsGreatestFall, drop_by, drop_on};
 ghost use Rattle.drain.specs.Fitting.{IsFitting};
 ghost use Rattle.drain.specs.declared.around.Around.{Around};
 
@@ -42,20 +42,16 @@ fn drop_to(level: Height, cell: Cell) -> u64
     }
 }
 
-/// The lowest cell on the ways of one parity, and the first way with it.
-#[derive(Clone, Copy)]
-struct Lowest {
-    cell: Cell,
-    way: usize,
-}
-
-/// Returns the lowest cell on the ways of one parity, and the first way with it.
-/// The number of a cell without data is above each height.
+/// Returns the greatest drop on the ways of one parity, and the first way with it.
+/// It leads to the lowest cell. The number of a cell without data is above each height.
 #[inline(always)]
-fn lowest_cell(heights: &[Cell; 8], parity: usize) -> Lowest
-    requires { parity < 2 }
-    ensures way { IsLowestWay heights.now parity 4 result.way }
-    ensures cell { result.cell ≡ slice_index_or heights.now result.way None }
+fn greatest_fall(level: Height, heights: &[Cell; 8], parity: usize) -> Fall
+    requires parity { parity < 2 }
+    requires level { IsHeight level }
+    requires heights { (way : ℕ) → way < 8 → IfSome (slice_index_or heights.now way None) IsHeight }
+    ensures way { IsGreatestFall level heights.now parity 4 result.way }
+    ensures drop { result.drop ≡ drop_on level heights.now result.way }
+    ensures bound { result.drop ≤ greatest_drop }
 {
     let mut cell = heights[parity];
     let mut way = parity;
@@ -67,23 +63,9 @@ fn lowest_cell(heights: &[Cell; 8], parity: usize) -> Lowest
             way = next;
         }
     }
-    Lowest { cell, way }
-}
-
-/// Returns the greatest drop on the ways of one parity, and the first way with it.
-#[inline(always)]
-fn greatest_fall(level: Height, heights: &[Cell; 8], parity: usize) -> Fall
-    requires parity { parity < 2 }
-    requires level { IsHeight level }
-    requires heights { (way : ℕ) → way < 8 → IfSome (slice_index_or heights.now way None) IsHeight }
-    ensures way { IsGreatestFall level heights.now parity 4 result.way }
-    ensures drop { result.drop ≡ drop_on level heights.now result.way }
-    ensures bound { result.drop ≤ greatest_drop }
-{
-    let lowest = lowest_cell(heights, parity);
     Fall {
-        drop: drop_to(level, lowest.cell),
-        way: lowest.way,
+        drop: drop_to(level, cell),
+        way,
     }
 }
 
@@ -117,8 +99,9 @@ pub(crate) fn steepest(level: Height, heights: &[Cell; 8]) -> Option<usize>
 {
     let straight = greatest_fall(level, heights, 0);
     let across = greatest_fall(level, heights, 1);
-    let (side, corner) = (2 * square(straight.drop), square(across.drop));
-    let fall = if goes_before(side, straight.way, corner, across.way) {
+    let side = square(straight.drop);
+    let corner = square(across.drop);
+    let fall = if goes_before(2 * side, straight.way, corner, across.way) {
         straight
     } else {
         across

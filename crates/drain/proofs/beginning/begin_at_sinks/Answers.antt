@@ -9,15 +9,13 @@ use Rattle.drain.proofs.beginning.begin_at_sinks.Goals.{then-is_inner+then-is_so
 use Rattle.drain.proofs.beginning.begin_at_sinks.Goals as goal
 
 pub loop-sink-init : goal.loop-sink-init
-loop-sink-init c = before_any c.args.grid.now.terrain c.sinks-sink-items.result.now
-    c.args.window.now.bounds c.args.counts.now c.requires
+loop-sink-init c = before_any c.sinks-sink-items.result.now c.requires
 
 pub loop-sink-preserved-in_default : goal.loop-sink-preserved-in_default
 loop-sink-preserved-in_default c =
     let b = c.args.window.now.bounds in
-    sink_passed c.args.grid.now.terrain c.sinks-sink-items.result.now c.loop-sink.sink-index
-    c.args.window.now.bounds c.loop-sink.counts c.loop-sink-test.true c.loop-sink.invariant
-    (λ s inner shows here. c.in_default.ensures s (spot_from_inner b s inner) shows)
+    sink_passed c.sinks-sink-items.result.now c.loop-sink.sink-index c.loop-sink-test.true c.loop-sink.invariant
+    (λ s inner shows here. c.in_default.ensures s (spot_from_inner inner) shows)
 
 pub loop-sink-preserved : goal.loop-sink-preserved
 loop-sink-preserved c =
@@ -26,11 +24,11 @@ loop-sink-preserved c =
     let i = c.loop-sink.sink-index in
     let b = c.args.window.now.bounds in
     let at = c.in-Some.ensures in
-    let passed = sink_passed t sinks i b c.loop-sink.counts c.loop-sink-test.true
+    let passed = sink_passed sinks i c.loop-sink-test.true
     c.loop-sink.invariant in
     elim c.if-is_inner.branch [
       | then-is_inner+then-is_some w ↦ rw (w.counts-is, w.index.ensures.value)
-          (sink_put t sinks i b c.loop-sink.counts c.loop-sink-test.true c.loop-sink.invariant
+          (sink_put sinks i c.loop-sink-test.true c.loop-sink.invariant
           c.sinks-sink-items.ensures.value c.in-Some.spot (c.is_inner.ensures.0 w.if-is_inner.true) at.1
           (sym (ap is_some w.at.ensures) ∙ sym w.is_some.ensures ∙ w.if-is_some.true))
       | else-is_inner w ↦
@@ -47,6 +45,5 @@ loop-sink-preserved c =
 
 pub returns : goal.returns
 returns c =
-    before_all c.args.grid.now.terrain c.sinks-sink-items.result.now c.loop-sink.sink-index
-    c.args.window.now.bounds c.loop-sink.counts c.sinks-sink-items.ensures.value
+    before_all c.loop-sink.sink-index c.sinks-sink-items.ensures.value
     (omega (arith, c.loop-sink-test.false)) c.loop-sink.invariant

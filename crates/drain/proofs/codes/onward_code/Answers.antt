@@ -1,6 +1,7 @@
 use Rattle.std.proofs.Common.{◌≡◌, ◌+◌, ◌-◌, ◌≤◌, ◌<◌, ◌^◌, ℕ, None, Some, Option, get_or, unwrap_or, ap, sym, ◌∙◌, arith}
 use Rattle.std.proofs.lemmas.Bool.{false≢true}
 use Rattle.std.proofs.lemmas.List.{get_or_default}
+use Rattle.drain.specs.Search.{stored}
 use Rattle.drain.specs.Codes.{IsOnwardWay, level_at, stored_at}
 use Rattle.drain.proofs.Onward.{first_here, first_kept, more_ways}
 use Rattle.drain.proofs.codes.onward_code.Goals as goal
@@ -17,7 +18,7 @@ loop-turn-preserved c =
     let below : 7 - turn < 8 = omega arith in
     let left : turn < 8 = c.loop-turn-test.true in
     let count : c.number-count.result ≡ stored_at steps at (7 - turn) = c.number-count.ensures.value
-    ∙ ap (λ (o : Option ℕ). unwrap_or o (2 ^ 24)) (c.index-steps-index.is
+    ∙ ap stored (c.index-steps-index.is
     ∙ get_or_default steps (get_or at (7 - turn) 0) c.index-steps-index.result None
     (c.requires.steps (7 - turn) below)) in
     let is = IsOnwardWay cells steps at c.args.level own in

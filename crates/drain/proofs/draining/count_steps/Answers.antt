@@ -22,9 +22,9 @@ returns-in-Codes-clause-counted g c =
       c.deref-in-loop-steps.ensures.value,
       grid.value,
     ) at c.in_ok-codes.ensures.checked in
-    let are = certified t cut steps c.in-Codes.codes.items c.requires lawful checked.0 checked.1
+    let are = certified t steps c.in-Codes.codes.items c.requires lawful checked.0 checked.1
     (rw grid.value at c.in_ok-steps-2.ensures.counts) (rw grid.value at c.new.ensures.lawful) grid.own in
-    (are, coded t cut steps c.in-Codes.codes.items c.requires lawful checked.0 checked.1 are)
+    (are, coded t steps c.in-Codes.codes.items c.requires lawful checked.0 checked.1 are)
 
 pub loop-steps-preserved : goal.loop-steps-preserved
 loop-steps-preserved g c =

@@ -19,7 +19,7 @@ new-requires g c =
     let steps = c.of-reported.result.value.items in
     let stepped = subst (λ v. AreSteps t v.items) (sym c.of-reported.ensures) made.ensures.counted.0 in
     let codes = c.in-Ok.codes.items in
-    let all = coded_whole t c.args.tiling.now made.field-0.codes codes c.requires made.ensures.lawful.1
+    let all = coded_whole made.field-0.codes c.requires made.ensures.lawful.1
     made.ensures.counted.1 (rw c.deref.ensures.value at c.in-Ok.ensures) in
     rw c.grid.ensures.value (are_draining t steps codes stepped all)
 
@@ -27,7 +27,7 @@ pub returns-in-Ok-clause-codes : goal.returns-in-Ok-clause-codes
 returns-in-Ok-clause-codes g c =
     let t = c.args.filled.now.terrain in
     let made = c.in_ok-steps in
-    let all = coded_whole t c.args.tiling.now made.field-0.codes c.in-Ok.codes.items c.requires
+    let all = coded_whole made.field-0.codes c.requires
     made.ensures.lawful.1 made.ensures.counted.1 (rw c.deref.ensures.value at c.in-Ok.ensures) in
     rw c.new.ensures all
 
@@ -38,7 +38,7 @@ returns-in-Ok-clause-ends g c =
     let steps = c.of-reported.result.value.items in
     let stepped = subst (λ v. AreSteps t v.items) (sym c.of-reported.ensures) made.ensures.counted.0 in
     let codes = c.in-Ok.codes.items in
-    let all = coded_whole t c.args.tiling.now made.field-0.codes codes c.requires made.ensures.lawful.1
+    let all = coded_whole made.field-0.codes c.requires made.ensures.lawful.1
     made.ensures.counted.1 (rw c.deref.ensures.value at c.in-Ok.ensures) in
     let d : Drained = record { terrain = c.grid.result.now.terrain; steps = steps; codes = codes } in
     let draining = subst (λ (x : Raster). IsDraining (record { terrain = x.terrain; steps = steps; codes = codes }))

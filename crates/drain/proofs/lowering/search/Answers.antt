@@ -15,7 +15,7 @@ loop-next-preserved-then-is_due c =
     elim c.if-contains.branch [
       | then-contains+in_ok-record w ↦ record {
         bounds = rw w.lowered-is (w.record.ensures.bounds ∙ c.loop-next.invariant.bounds);
-        changes = rw w.lowered-is (recorded input.terrain input.steps _ _ _
+        changes = rw w.lowered-is (recorded _ _
             c.loop-next.invariant.changes entry w.record.ensures.changes);
         next = omega (arith, c.if-next-run-2.true);
       }

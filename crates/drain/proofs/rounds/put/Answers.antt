@@ -2,6 +2,7 @@ use Rattle.std.proofs.Common.{◌≡◌, ◌<◌, ◌^◌, ℕ, List, Option, No
 use Rattle.std.proofs.lemmas.List.{get_or_default}
 use Rattle.terrain.proofs.Places.{index_below}
 use Rattle.terrain.specs.Neighbours.{index_of}
+use Rattle.drain.specs.Search.{stored}
 use Rattle.drain.specs.Counts.{count_of, count_sum}
 use Rattle.drain.proofs.Sound.{set_counts, set_less}
 use Rattle.drain.proofs.rounds.put.Goals as goal
@@ -29,24 +30,24 @@ module _ (c : After-of) where
 
   less : c.args.change.count < count_of steps (index_of c.args.grid.now.terrain.cols c.args.change.place)
   less =
-      let read = ap (λ (o : Option ℕ). unwrap_or o (2 ^ 24))
+      let read = ap stored
       (get_or_default steps c.index_in-index.result c.index-steps-index.result None below) in
       let whole : c.number.result ≡ count_of steps c.index_in-index.result = c.number.ensures.value ∙ read in
       simp (← index_is) (omega (arith, c.if-change-number.false, whole))
 
-  stored : c.of.result ≡ Some c.args.change.count
-  stored = c.of.ensures.number c.requires.change.walked.0
+  stored_is : c.of.result ≡ Some c.args.change.count
+  stored_is = c.of.ensures.number c.requires.change.walked.0
 
   pub lower_sum : count_sum (slice_set steps c.index_in-index.result c.of.result) < count_sum steps
   lower_sum = simp index_is
-      (set_less c.args.grid.now.terrain steps c.requires.counts c.args.change c.requires.change c.of.result
-      stored less)
+      (set_less c.requires.counts c.requires.change
+      stored_is less)
 
 pub returns-clause-counts : goal.returns-clause-counts
 returns-clause-counts c =
     let t = c.args.grid.now.terrain in
     simp (index_is c)
-    (set_counts t c.args.steps.now c.requires.counts c.args.change c.requires.change c.of.result (stored c)
+    (set_counts c.requires.counts c.requires.change (stored_is c)
     (less c))
 
 pub returns-clause-low : goal.returns-clause-low

@@ -5,8 +5,7 @@ use Rattle.drain.proofs.search.pull.Goals as goal
 
 pub loop-row-init : goal.loop-row-init
 loop-row-init c = record {
-  pulled = pulled_none c.args.window.now.bounds c.args.window.now.values.items c.args.old.now
-      c.args.counts.now c.new-reached.result.items c.requires.same c.new-reached.ensures.items;
+  pulled = pulled_none c.requires.same c.new-reached.ensures.items;
   near = λ none s inner below. absurd (omega (arith, inner.first_row, below));
 }
 

@@ -6,7 +6,6 @@ use Rattle.drain.proofs.search.pull.Given as goal
 
 abbrev pub invariant-loop-row : goal.invariant-loop-row
 invariant-loop-row l = record {
-  pulled : IsPulled l.window.bounds l.window.values.items l.old l.counts l.reached.items;
-  near : l.reached.items ≡ [] → (s : Place) → IsInner l.window.bounds s → s.row < l.row →
-      IsNear l.window.bounds l.window.values.items l.old s;
+  pulled : IsPulled l.window l.old l.counts l.reached.items;
+  near : l.reached.items ≡ [] → (s : Place) → IsInner l.window.bounds s → s.row < l.row → IsNear l.window l.old s;
 }

@@ -3,7 +3,5 @@ use Rattle.drain.proofs.search.pull_at.Goals as goal
 
 pub returns-in_ok-push-clause-pulled : goal.returns-in_ok-push-clause-pulled
 returns-in_ok-push-clause-pulled c =
-    pulled_set c.args.window.now.bounds c.args.window.now.values.items c.args.old.now c.args.counts.now
-    c.args.spot c.index-index.result c.least_around-least.result c.args.reached.now.items _
-    c.index-index.ensures.value c.requires.spot c.requires.before c.least_around-least.ensures.one
-    c.if-least-own.true c.in_ok-push.ensures.items
+    pulled_set _ _ _ _ c.index-index.ensures.value c.requires.spot c.requires.before
+    c.least_around-least.ensures.one c.if-least-own.true c.in_ok-push.ensures.items

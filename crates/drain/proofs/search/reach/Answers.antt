@@ -9,9 +9,7 @@ returns-else-next-counts c = lowering_none
 
 pub returns-after-is_inner : goal.returns-after-is_inner
 returns-after-is_inner c =
-    lowering_set c.args.window.now.bounds c.args.window.now.values.items c.args.counts.now
-    c.args.from c.args.to c.index.result c.index-index.result c.args.reached.now.items _
-    c.index.ensures.value c.index-index.ensures.value c.requires.from c.requires.to
+    lowering_set _ _ _ _ c.index.ensures.value c.index-index.ensures.value c.requires.from c.requires.to
     (c.is_level.ensures.0 c.if-is_level.true) c.if-next-counts.true
     (elim c.if-is_inner.branch [
       | then-is_inner+in_ok-push w ↦ inl (

@@ -5,7 +5,7 @@ use Rattle.drain.proofs.search.search.Given as goal
 
 abbrev pub invariant-loop-done : goal.invariant-loop-done
 invariant-loop-done l = record {
-  spread : IsSpread l.window.bounds l.window.values.items l.initial.counts l.counts;
+  spread : IsSpread l.window l.initial.counts l.counts;
   inner : All (IsInner l.window.bounds) l.reached.items;
 }
 

@@ -1,5 +1,5 @@
 use Rattle.std.proofs.lemmas.Option.{MatchOption-at_some}
-use Rattle.drain.proofs.Spreading.{spread_none}
+use Rattle.drain.specs.Search.{same}
 use Rattle.drain.proofs.search.searched.Goals as goal
 
 pub returns-in-Some : goal.returns-in-Some
@@ -8,4 +8,4 @@ returns-in-Some c =
     (MatchOption-at_some _ _ c.in-Some.lower c.in-Some.is c.in_ok-lower.ensures.lower).0
 
 pub returns-in-None : goal.returns-in-None
-returns-in-None c = spread_none c.args.window.now.bounds c.args.window.now.values.items c.args.counts.items
+returns-in-None c = same

@@ -3,5 +3,4 @@ use Rattle.drain.proofs.search.spread.Given as goal
 
 abbrev pub invariant-loop-row : goal.invariant-loop-row
 invariant-loop-row l =
-    IsLowering l.window.bounds l.window.values.items l.initial.counts l.counts l.initial.reached.items
-    l.reached.items
+    IsLowering l.window l.initial.counts l.counts l.initial.reached.items l.reached.items

@@ -3,5 +3,4 @@ use Rattle.drain.proofs.search.spread_along.Given as goal
 
 abbrev pub invariant-loop-col : goal.invariant-loop-col
 invariant-loop-col l =
-    IsLowering l.window.bounds l.window.values.items l.initial.counts l.counts l.initial.reached.items
-    l.reached.items
+    IsLowering l.window l.initial.counts l.counts l.initial.reached.items l.reached.items

@@ -3,6 +3,7 @@ use Rattle.std.proofs.lemmas.Bool.Decides.{nat_tests}
 use Rattle.std.proofs.lemmas.List.{get_or_default}
 use Rattle.terrain.specs.Neighbours.{index_of}
 use Rattle.terrain.specs.declared.place.Place.{Place}
+use Rattle.drain.specs.Search.{stored}
 use Rattle.drain.specs.Counts.{Counted, IsCountedTerrain, count_of}
 use Rattle.drain.proofs.Sound.{lower_change}
 use Rattle.drain.proofs.input.RoundInput.lower.Goals as goal
@@ -20,15 +21,15 @@ returns-then-ne-clause-change c =
       arith,
       c.index.ensures.below,
       counted.counts.size,
-      ap (λ (xs : List (Option ℕ)). length xs) same,
+      ap length same,
     ) in
-    let read = ap (λ (o : Option ℕ). unwrap_or o (2 ^ 24))
+    let read = ap stored
     (get_or_default steps c.index.result c.index-self-index.result None inside
     ∙ ap (λ (xs : List (Option ℕ)). get_or xs c.index.result None) same) in
-    let at = ap (λ (k : ℕ). count_of input.steps k) c.index.ensures.value in
+    let at = ap (count_of input.steps) c.index.ensures.value in
     let whole : c.number.result ≡ count_of input.steps (index_of input.terrain.cols c.args.to) =
     c.number.ensures.value ∙ read ∙ at in
     let below : c.args.from.count + 1 < count_of input.steps (index_of input.terrain.cols c.args.to) =
     omega (arith, c.if-count-number.true, whole) in
-    lower_change input.terrain input.steps c.args.from c.args.to counted.counts c.requires.from
+    lower_change counted.counts c.requires.from
     c.requires.to.0 c.requires.to.1 differ (c.is_level.ensures.0 c.if-is_level.true) below

@@ -9,7 +9,7 @@ loop-col-preserved c =
     elim c.match-lower.branch [
       | in-Some+in_ok-record w ↦ record {
         bounds = rw w.self-is (w.record.ensures.bounds ∙ c.loop-col.invariant.bounds);
-        changes = rw w.self-is (recorded input.terrain input.steps _ _ w.in-Some.change
+        changes = rw w.self-is (recorded _ _
             c.loop-col.invariant.changes w.in-Some.ensures.change w.record.ensures.changes);
       }
       | in_default w ↦ record {
