@@ -16,7 +16,7 @@ use Rattle.flow.specs.Counts.{accumulation, drains_through}
 use Rattle.flow.specs.Catchments.{gauge_number, catchment}
 use Rattle.flow.proofs.CutPaths.{cases_first, found_next, position_push}
 use Rattle.flow.proofs.Coded.{IsCoded, cases_coded, coded_along, follow_more}
-use Rattle.flow.proofs.DrainedCells.{one_more, counted_on, drains_itself, other_test}
+use Rattle.flow.proofs.DrainedCells.{one_more, counted_on, drains_itself, other_test, counted}
 use Rattle.flow.proofs.Reaching.{IsEnding, reached_early, drains_at, drains_from}
 use Rattle.flow.proofs.Sending.{and_on}
 use Rattle.flow.proofs.Ranges.{any_in_range, sum_of_cells}
@@ -74,7 +74,7 @@ some_number gauges p a = let u = position_of (is_place p) 1 gauges a in
     omega (arith, ap (λ (o : Option ℕ). unwrap_or o 0) u.found)
 
 -- A gauge g on a data cell, through which no other gauge drains.
-module _ (d : Directed) (s : IsEnding d) (gauges : List Place) (g : Place) (is : IsCoded d g)
+module _ {d : Directed} (s : IsEnding d) (gauges : List Place) {g : Place} (is : IsCoded d g)
     (named : list_any (is_place g) gauges ≡ true)
     (alone : (h : Place) → list_any (is_place h) gauges ≡ true → h ≢ g →
     drains_through d g h ≡ false) where
@@ -84,8 +84,8 @@ module _ (d : Directed) (s : IsEnding d) (gauges : List Place) (g : Place) (is :
   first_is : (q : Place) → IsCoded d q → drains_through d g q ≡ true →
       catchment d gauges q ≡ gauge_number gauges g
   first_is q coded through =
-      let r = drains_from d s q g through in
-      let m = reached_early d s q g coded r.0 r.1 in
+      let r = drains_from s q g through in
+      let m = reached_early s coded r.0 r.1 in
       let there : is_gauge (follow d q m.0) ≡ true = ap is_gauge m.3 ∙ named in
       elim (cases_first is_gauge (follow d q) (moves d)) [
         | inr w ↦ absurd (false≢true (sym (w.fails m.0 m.1) ∙ there))
@@ -98,7 +98,7 @@ module _ (d : Directed) (s : IsEnding d) (gauges : List Place) (g : Place) (is :
                 let on : w.at + (m.0 - w.at) ≡ m.0 = omega (arith, late) in
                 let reaches = follow_more d q w.at (m.0 - w.at) ∙ ap (follow d q) on ∙ m.3 in
                 absurd (false≢true (sym (alone (follow d q w.at) w.passes apart)
-                ∙ drains_at d s (follow d q w.at) g (coded_along d s.ends q coded w.at)
+                ∙ drains_at s (coded_along s.ends coded w.at)
                 (m.0 - w.at) reaches))
           ]
         ]
@@ -113,7 +113,7 @@ module _ (d : Directed) (s : IsEnding d) (gauges : List Place) (g : Place) (is :
       some_number gauges g named,
       ap (λ (o : Option Place). option_map_or (gauge_number gauges) o 0) w.found,
     ))
-    | inl w ↦ drains_at d s q g coded w.at
+    | inl w ↦ drains_at s coded w.at
         (same_gauge gauges (follow d q w.at) g w.passes named
         (sym (ap (λ (o : Option Place). option_map_or (gauge_number gauges) o 0) w.found) ∙ same))
   ]
@@ -128,10 +128,9 @@ module _ (d : Directed) (s : IsEnding d) (gauges : List Place) (g : Place) (is :
   pub caught_count : count_by (λ q. is_some (code_at d q) && catchment d gauges q
       == gauge_number gauges g) (places d.cols d.rows) ≡ accumulation d g + 1
   caught_count =
-      sum_of_cells (λ q. cond {A = ℕ}
-      (is_some (code_at d q) && catchment d gauges q == gauge_number gauges g) 1 0) d.cols d.rows
-      ∙ one_more d s (λ q.
-      cond {A = ℕ} (is_some (code_at d q) && catchment d gauges q == gauge_number gauges g) 1 0)
+      sum_of_cells (λ q. counted d (catchment d gauges q == gauge_number gauges g) q) d.cols d.rows
+      ∙ one_more s (λ q.
+      counted d (catchment d gauges q == gauge_number gauges g) q)
       (λ q.
       cond {A = ℕ} (is_some (code_at d q) && not (is_place g q) && drains_through d g q) 1 0) g is
       (λ q ne. elim (cases_coded d q) [
@@ -140,12 +139,12 @@ module _ (d : Directed) (s : IsEnding d) (gauges : List Place) (g : Place) (is :
             cond-false {A = ℕ} _ 1 0 (and_left _ _ off)
             ∙ sym (cond-false {A = ℕ} _ 1 0 (and_left _ _ (and_left _ _ off)))
         | inr coded ↦
-            ap (λ b. cond {A = ℕ} (is_some (code_at d q) && b) 1 0) (caught_same q coded)
+            ap (λ b. counted d b q) (caught_same q coded)
             ∙ ap (λ x. cond {A = ℕ} (x && drains_through d g q) 1 0)
-            (sym (and_on (is_some (code_at d q)) (not (is_place g q))
-            (not_from_false _ (other_test d s g q ne))))
+            (sym (and_on (is_some (code_at d q))
+            (not_from_false _ (other_test s g q ne))))
       ])
-      (counted_on d g _ is (caught_same g is ∙ drains_itself d s g))
+      (counted_on is (caught_same g is ∙ drains_itself s g))
       (cond-false {A = ℕ} _ 1 0
       (and_left _ _ (and_right _ _ (not_from_true _ (is_place_from g g refl)))))
 

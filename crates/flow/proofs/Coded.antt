@@ -55,14 +55,14 @@ stops_sooner d p e k n way stop =
     ap (next d) later ∙ stop ∙ sym later
 
 -- If the path of p returns to p, and moves no further after some move, it never leaves p.
-pub cycle_stops : (d : Directed) (n : ℕ) (p : Place) (k : ℕ) → follow d p (suc k) ≡ p →
+pub cycle_stops : (d : Directed) (n : ℕ) {p : Place} (k : ℕ) → follow d p (suc k) ≡ p →
     StopsAt d p n → next d p ≡ p
-cycle_stops d zero p k way stop = stop
-cycle_stops d (suc n) p k way stop = cycle_stops d n p k way (stops_sooner d p p k n way stop)
+cycle_stops d zero k way stop = stop
+cycle_stops d (suc n) {p} k way stop = cycle_stops d n k way (stops_sooner d p p k n way stop)
 
-pub coded_along : (d : Directed) → AllFlowEnds d → (p : Place) → IsCoded d p → (k : ℕ) →
+pub coded_along : {d : Directed} → AllFlowEnds d → {p : Place} → IsCoded d p → (k : ℕ) →
     IsCoded d (follow d p k)
-coded_along d ends p c k = elim (cases_coded d (follow d p k)) [
+coded_along {d} ends {p} c k = elim (cases_coded d (follow d p k)) [
   | inr is ↦ is
   | inl none ↦ elim (cases_lt (moves d) k) [
     | inr le ↦ (let last = follow_stays d p k (moves d) le (none_stays d (follow d p k) none) in
@@ -73,13 +73,13 @@ coded_along d ends p c k = elim (cases_coded d (follow d p k)) [
   ]
 ]
 
-pub outlet_from_stays : (d : Directed) → AllFlowEnds d → (p : Place) → IsCoded d p → next d p ≡ p →
+pub outlet_from_stays : {d : Directed} → AllFlowEnds d → {p : Place} → IsCoded d p → next d p ≡ p →
     IsOutlet d p
-outlet_from_stays d ends p c e = sym (ap (code_at d) (follow_stays d p 0 (moves d) (omega arith) e))
+outlet_from_stays {d} ends {p} c e = sym (ap (code_at d) (follow_stays d p 0 (moves d) (omega arith) e))
     ∙ ends p c.code c.is
 
-pub coded_inside : (d : Directed) (p : Place) → IsCoded d p → (p.row < d.rows) × (p.col < d.cols)
-coded_inside d p c = inside_from_entry d.cols d.rows d.codes p c.code c.is
+pub coded_inside : {d : Directed} {p : Place} → IsCoded d p → (p.row < d.rows) × (p.col < d.cols)
+coded_inside {d} {p} c = inside_from_entry d.cols d.rows d.codes p c.code c.is
 
 pub coded_from_some : (d : Directed) (p : Place) → is_some (code_at d p) ≡ true → IsCoded d p
 coded_from_some d p h = elim (cases_coded d p) [

@@ -16,7 +16,7 @@ use Rattle.flow.specs.Counts.{accumulation, IsValueAt}
 use Rattle.flow.specs.Streams.{AreStreams, AreSums, total}
 use Rattle.flow.specs.TileFlow.{Flow, IsTileExits, AreTileCounts}
 use Rattle.flow.specs.TileLinks.{AreTileCodes, links_by, weights_by, where_data}
-use Rattle.flow.specs.Whole.{IsGridFlow, make_directed}
+use Rattle.flow.specs.Whole.{IsGridFlow, make_directed, directed_on}
 use Rattle.flow.specs.Inflows.{Inflows, AreInflows, listed_inflow}
 use Rattle.flow.specs.RimGraph.{AreFlowsOf}
 use Rattle.flow.specs.Counting.{IsCounting, IsCountable, AreCountable, AreInflowWeights, AreCounts}
@@ -33,28 +33,27 @@ weights_size cells = length-map cells (λ (code : Option ℕ). cond {A = ℕ} (i
 
 -- A map's flows, with counts, and the inflows found from them meet `IsCounting`.
 pub counting_of :
-    (t : Cutting) (codes : List (Option ℕ)) (flows joined : List Flow) (inflows : Inflows) →
-    IsGridFlow t.cols t.rows codes → AreFlowsOf (make_directed t.cols t.rows codes) t flows →
-    AreTileCounts (make_directed t.cols t.rows codes) t flows → joined ≡ flows →
+    {t : Cutting} {codes : List (Option ℕ)} {flows joined : List Flow} (inflows : Inflows) →
+    IsGridFlow t.cols t.rows codes → AreFlowsOf (directed_on t codes) t flows →
+    AreTileCounts (directed_on t codes) t flows → joined ≡ flows →
     ((d : Directed) → AreFlowsOf d t joined → AreTileCounts d t joined → AreInflows d t inflows) →
     IsCounting t codes flows inflows
-counting_of t codes flows joined inflows grid are counts same entering = record {
+counting_of {t} {codes} inflows grid are counts same entering = record {
   grid = grid;
   are_flows = are;
-  are_inflows = entering (make_directed t.cols t.rows codes)
-      (subst (λ (x : List Flow). AreFlowsOf (make_directed t.cols t.rows codes) t x) (sym same) are)
-      (subst (λ (x : List Flow). AreTileCounts (make_directed t.cols t.rows codes) t x)
-      (sym same) counts);
+  are_inflows = entering (directed_on t codes)
+      (rw same are)
+      (rw same counts);
 }
 
-module _ (t : Cutting) (codes : List (Option ℕ)) (flows : List Flow) (inflows : Inflows)
+module _ {t : Cutting} {codes : List (Option ℕ)} {flows : List Flow} {inflows : Inflows}
     (s : IsCounting t codes flows inflows) where
-  ending : IsEnding (make_directed t.cols t.rows codes)
+  ending : IsEnding (directed_on t codes)
   ending =
-      ending_of (make_directed t.cols t.rows codes) t s.grid.ends s.are_flows.cutting (refl, refl)
+      ending_of (directed_on t codes) s.grid.ends s.are_flows.cutting (refl, refl)
 
   module _ (tile : ℕ) (f : Flow) (there : slice_get flows tile ≡ Some f) where
-    right : IsTileExits (make_directed t.cols t.rows codes) t tile f
+    right : IsTileExits (directed_on t codes) t tile f
     right = s.are_flows.of_tiles.each tile f there
 
     below : tile < tile_count t
@@ -63,9 +62,9 @@ module _ (t : Cutting) (codes : List (Option ℕ)) (flows : List Flow) (inflows 
     around : AreBounds t (bounds_of t tile)
     around = bounds_inside t tile s.are_flows.cutting below
 
-    of_cells : AreTileCodes (make_directed t.cols t.rows codes) (bounds_of t tile) f.codes
+    of_cells : AreTileCodes (directed_on t codes) (bounds_of t tile) f.codes
     of_cells =
-        codes_from (make_directed t.cols t.rows codes) t tile f s.are_flows.cutting below right
+        codes_from s.are_flows.cutting below right
 
     within_tile : (p : Place) → IsInBounds (bounds_of t tile) p → (p.row < t.rows)
         × (p.col < t.cols)
@@ -76,11 +75,11 @@ module _ (t : Cutting) (codes : List (Option ℕ)) (flows : List Flow) (inflows 
     inflow_few p h = omega (
       arith,
       s.are_inflows.each p (within_tile p h),
-      inflow_sum (make_directed t.cols t.rows codes) t p,
-      entered_few (make_directed t.cols t.rows codes) ending t p,
+      inflow_sum (directed_on t codes) t p,
+      entered_few ending t p,
     )
 
-    module _ (links : List ℕ) (made : links ≡ links_by (bounds_of t tile) f.codes) where
+    module _ {links : List ℕ} (made : links ≡ links_by (bounds_of t tile) f.codes) where
       lists : AreLists (record { cutting = t; tile = tile; cells = codes })
           (bounds_of t tile) f.codes links (weights_by f.codes)
       lists = record {
@@ -93,17 +92,17 @@ module _ (t : Cutting) (codes : List (Option ℕ)) (flows : List Flow) (inflows 
         weighed = refl;
       }
 
-      piece_of : IsPiece (make_directed t.cols t.rows codes) t tile (bounds_of t tile) links
-      piece_of = piece _ _ _ _ _ lists
+      piece_of : IsPiece (directed_on t codes) t tile (bounds_of t tile) links
+      piece_of = piece lists
 
       pub streams_of : AreStreams links
       streams_of =
-          tile_streams (make_directed t.cols t.rows codes) t tile (bounds_of t tile) links piece_of
+          tile_streams piece_of
 
       pub same_sizes : length links ≡ length f.codes
       same_sizes = piece_of.made.size ∙ sym of_cells.size
 
-      module _ (weights : List ℕ)
+      module _ {weights : List ℕ}
           (weighed : AreInflowWeights inflows (bounds_of t tile) weights) where
         abbrev both : List ℕ
         both = map (λ i. get_or (weights_by f.codes) i 0 + get_or weights i 0)
@@ -114,16 +113,13 @@ module _ (t : Cutting) (codes : List (Option ℕ)) (flows : List Flow) (inflows 
         both_at i h = get_or-map-range_with_len (λ i. get_or (weights_by f.codes) i 0 + get_or weights i 0) 0
             (length links) i i 0 h (omega arith)
 
-        weights_are : AreWeights (make_directed t.cols t.rows codes) ending t tile
-            (bounds_of t tile) links piece_of both
+        weights_are : AreWeights ending piece_of both
         weights_are j h =
-            let inside = in_place (make_directed t.cols t.rows codes) t tile
-            (bounds_of t tile) links piece_of j h in
+            let inside = in_place piece_of j h in
             let index = index_in-place_in (bounds_of t tile) j in
             let own : get_or (weights_by f.codes) j 0
-            ≡ weight_in (make_directed t.cols t.rows codes) (bounds_of t tile) j =
-            (weights_from (make_directed t.cols t.rows codes)
-            (bounds_of t tile) f.codes of_cells).each j (omega (arith, h, piece_of.made.size)) in
+            ≡ weight_in (directed_on t codes) (bounds_of t tile) j =
+            (weights_from of_cells).each j (omega (arith, h, piece_of.made.size)) in
             omega (
               arith,
               both_at j h,
@@ -136,21 +132,20 @@ module _ (t : Cutting) (codes : List (Option ℕ)) (flows : List Flow) (inflows 
 
         total_drained : (i : ℕ) → i < length links →
             total links (weights_by f.codes) i + total links weights i
-            ≡ all_drained (make_directed t.cols t.rows codes) (place_in (bounds_of t tile) i)
+            ≡ all_drained (directed_on t codes) (place_in (bounds_of t tile) i)
         total_drained i h = omega (
           arith,
           totals_add links (weights_by f.codes) weights both streams_of both_at i h,
-          total_is links both _ streams_of (all_totals (make_directed t.cols t.rows codes) ending t
-              tile (bounds_of t tile) links piece_of both weights_are) i h,
+          total_is streams_of (all_totals ending piece_of both weights_are) i h,
         )
 
-        count_is : (totals added : List ℕ) → AreSums links (weights_by f.codes) totals →
-            AreSums links weights added → (p : Place) → IsInBounds (bounds_of t tile) p →
-            IsCoded (make_directed t.cols t.rows codes) p →
+        count_is : {totals added : List ℕ} → AreSums links (weights_by f.codes) totals →
+            AreSums links weights added → {p : Place} → IsInBounds (bounds_of t tile) p →
+            IsCoded (directed_on t codes) p →
             get_or totals (index_in (bounds_of t tile) p) 0
             + get_or added (index_in (bounds_of t tile) p) 0 - 1
-            ≡ accumulation (make_directed t.cols t.rows codes) p
-        count_is totals added counted summed p h is =
+            ≡ accumulation (directed_on t codes) p
+        count_is counted summed {p = p} h is =
             let at = place_in-index_in (bounds_of t tile) p h in
             let there : index_in (bounds_of t tile) p < length links =
             omega (arith, index_in_below (bounds_of t tile) p h, of_cells.size, same_sizes) in
@@ -159,8 +154,8 @@ module _ (t : Cutting) (codes : List (Option ℕ)) (flows : List Flow) (inflows 
               counted.each (index_in (bounds_of t tile) p) there,
               summed.each (index_in (bounds_of t tile) p) there,
               total_drained (index_in (bounds_of t tile) p) there,
-              ap (all_drained (make_directed t.cols t.rows codes)) at,
-              accumulation_is (make_directed t.cols t.rows codes) ending p is,
+              ap (all_drained (directed_on t codes)) at,
+              accumulation_is ending p is,
             )
 
     countable : IsCountable inflows tile f
@@ -172,47 +167,47 @@ module _ (t : Cutting) (codes : List (Option ℕ)) (flows : List Flow) (inflows 
               ∙ ap (λ (x : Cutting). bounds_of x tile) (sym s.are_inflows.cutting);
           size = of_cells.size
               ∙ ap (λ (x : Cutting). cell_count x tile) (sym s.are_inflows.cutting);
-          linked = same_sizes (links_by f.bounds f.codes) made;
+          linked = same_sizes made;
           few = omega (
             arith,
-            few _ _ _ _ _ (lists (links_by f.bounds f.codes) made),
-            same_sizes (links_by f.bounds f.codes) made,
+            few (lists made),
+            same_sizes made,
           );
-          streams = streams_of (links_by f.bounds f.codes) made;
+          streams = streams_of made;
           few_enter = λ p h. omega (
             arith,
             inflow_few p
-                (subst (λ (x : Cutting). IsInBounds (bounds_of x tile) p) s.are_inflows.cutting h),
+                (rw s.are_inflows.cutting at h),
           );
           totals_fit = λ weights weighed i h. omega (
             arith,
-            total_drained (links_by f.bounds f.codes) made weights
+            total_drained made
                 (subst (λ (x : Cutting). AreInflowWeights inflows (bounds_of x tile) weights)
                 s.are_inflows.cutting weighed) i
-                (omega (arith, h, same_sizes (links_by f.bounds f.codes) made)),
-            drained_few (make_directed t.cols t.rows codes) ending (place_in (bounds_of t tile) i),
+                (omega (arith, h, same_sizes made)),
+            drained_few ending (place_in (bounds_of t tile) i),
           );
         }
 
     -- The count at each place of the tile is its accumulation, `None` at NODATA.
-    pub entry_counted : (values : List (Option ℕ)) → AreCounts inflows tile f values → (p : Place) →
+    pub entry_counted : {values : List (Option ℕ)} → AreCounts inflows tile f values → (p : Place) →
         IsInTile t tile p →
-        IsValueAt (make_directed t.cols t.rows codes)
-        (accumulation (make_directed t.cols t.rows codes)) p (tile_entry t tile values p)
-    entry_counted values are p i =
+        IsValueAt (directed_on t codes)
+        (accumulation (directed_on t codes)) p (tile_entry t tile values p)
+    entry_counted {values} are p i =
         let h = in_bounds t tile p s.are_flows.cutting i in
         let made : links_by f.bounds f.codes ≡ links_by (bounds_of t tile) f.codes =
         ap (λ (b : Bounds). links_by b f.codes) right.bounds in
         let weighed = subst (λ (x : Cutting). AreInflowWeights inflows (bounds_of x tile) are.weights)
         s.are_inflows.cutting are.weighed in
         let links = links_by f.bounds f.codes in
-        match_data (code_at (make_directed t.cols t.rows codes) p) _ _ _
+        match_data (code_at (directed_on t codes) p) _ _ _
         (tile_entry-in t tile values p i
         ∙ ap (λ (l : List (Option ℕ)). get_or l (index_in (bounds_of t tile) p) None) are.made
-        ∙ count_entry _ _ _ _ _ (lists links made)
+        ∙ count_entry (lists made)
         (λ i. slice_index are.totals i + slice_index are.added i) p h)
-        (λ code is. count_is links made are.weights weighed are.totals are.added are.counted
-        are.summed p h (record { code = code; is = is }))
+        (λ code is. count_is made weighed are.counted
+        are.summed h (record { code = code; is = is }))
 
   pub countable_all : AreCountable t flows inflows
   countable_all = record {
@@ -221,8 +216,8 @@ module _ (t : Cutting) (codes : List (Option ℕ)) (flows : List Flow) (inflows 
     each = countable;
   }
 
-pub counts_size : (inflows : Inflows) (tile : ℕ) (f : Flow) (values : List (Option ℕ)) →
+pub counts_size : {inflows : Inflows} {tile : ℕ} {f : Flow} {values : List (Option ℕ)} →
     AreCounts inflows tile f values → length values ≡ length f.codes
-counts_size inflows tile f values are =
+counts_size {f = f} are =
     ap length are.made ∙ length-map-range_with_len (λ i. where_data (get_or f.codes i None)
     (get_or are.totals i 0 + get_or are.added i 0 - 1)) 0 (length f.codes)

@@ -34,13 +34,13 @@ entry_set_other cols rows xs x p g col apart = elim (cases_lt p.row rows) [
 
 -- Setting the code at gauge k, a cell of the grid, to 0 turns codes cut at the first k gauges into
 -- codes cut at the first k + 1. Gauges are counted from 0.
-pub cut_next : (cols rows : ℕ) (codes : List (Option ℕ)) (gauges : List Place) (k : ℕ)
-    (cut new : List (Option ℕ)) (d : Place) →
+pub cut_next : {cols rows : ℕ} {codes : List (Option ℕ)} (gauges : List Place) (k : ℕ)
+    {cut new : List (Option ℕ)} (d : Place) →
     length codes ≡ cols * rows → k < length gauges → let g = get_or gauges k d in
     (g.row < rows) × (g.col < cols) →
     new ≡ set cut (index_of cols g) (Some 0) → AreCutCodes cols rows codes (take k gauges) cut →
     AreCutCodes cols rows codes (take (k + 1) gauges) new
-cut_next cols rows codes gauges k cut new d size below inside made was =
+cut_next {cols = cols} {rows = rows} gauges k {cut = cut} d size below inside made was =
     let g = get_or gauges k d in
     let more = λ (p : Place). list_any_more (is_place p) gauges k d below in
     record {
@@ -83,9 +83,9 @@ gauge_inside cols rows codes gauges k d below coded =
     some_inside cols rows codes g (entry_at cols rows codes g) refl
     (coded g (list_any_at (is_place g) gauges k d below (is_place_from g g refl)))
 
-pub index_at : (cols n : ℕ) (gauges : List Place) (k i : ℕ) (d e : Place) → k < length gauges →
+pub index_at : {cols n : ℕ} (gauges : List Place) (k : ℕ) {i : ℕ} (d e : Place) → k < length gauges →
     n ≡ cols → i ≡ index_of n (get_or gauges k d) → i ≡ index_of cols (get_or gauges k e)
-index_at cols n gauges k i d e below same read =
+index_at {cols} gauges k d e below same read =
     read ∙ ap (λ m. index_of m (get_or gauges k d)) same
     ∙ ap (λ (q : Place). index_of cols q) (get_or_default gauges k d e below)
 

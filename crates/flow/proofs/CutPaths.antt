@@ -66,7 +66,7 @@ module _ {X : Type 0} (test : X → Bool) (f : ℕ → X) where
         fails = λ j below. elim (cases_lt j n) [
           | inl early ↦ absent.fails j early
           | inr late ↦ (let same : n ≡ j = omega (arith, late, below) in
-              subst (λ (k : ℕ). test (f k) ≡ false) same not_here)
+              rw same at not_here)
         ];
         found = found_next n ∙ ap (λ (o : Option X). option_or o (cond (test (f n))
             (Some (f n)) None)) absent.found ∙ cond-false (test (f n)) (Some (f n)) None not_here;
@@ -125,8 +125,8 @@ position_below p i (x ∷ xs) = elim (cases_Bool (p x)) [
 ]
 
 -- A map of directions, and the cut map: the one with gauges made outlets.
-module _ (d : Directed) (s : IsEnding d)
-    (gauges : List Place) (codes : List (Option ℕ)) (coded : HaveCodes d.cols d.rows d.codes gauges)
+module _ {d : Directed} (s : IsEnding d)
+    {gauges : List Place} {codes : List (Option ℕ)} (coded : HaveCodes d.cols d.rows d.codes gauges)
     (cut : AreCutCodes d.cols d.rows d.codes gauges codes) where
   abbrev pub cut_d : Directed
   cut_d = make_directed d.cols d.rows codes
@@ -161,7 +161,7 @@ module _ (d : Directed) (s : IsEnding d)
 
   no_gauge_last : (p : Place) → IsCoded d p → IsAbsent is_gauge (follow d p) (moves d) →
       is_gauge (last_of d p) ≡ false
-  no_gauge_last p is w = let m = reached_early d s p (last_of d p) is (moves d) refl in
+  no_gauge_last p is w = let m = reached_early s is (moves d) refl in
       ap is_gauge (sym m.3) ∙ w.fails m.0 m.1
 
   -- The catchment of a data cell p is the gauge number of the end of p's path in the cut map.
@@ -184,8 +184,8 @@ module _ (d : Directed) (s : IsEnding d)
   coded_gauge : (p : Place) → is_gauge p ≡ true → IsCoded d p
   coded_gauge p is = coded_of p (code_at d p) refl (coded p is)
 
-  coded_from_cut : (p : Place) → IsCoded cut_d p → IsCoded d p
-  coded_from_cut p is = elim (cases_Bool (is_gauge p)) [
+  coded_from_cut : {p : Place} → IsCoded cut_d p → IsCoded d p
+  coded_from_cut {p} is = elim (cases_Bool (is_gauge p)) [
     | inl there ↦ coded_gauge p there
     | inr isnt ↦ record { code = is.code; is = sym (cut.elsewhere p isnt) ∙ is.is }
   ]
@@ -198,7 +198,7 @@ module _ (d : Directed) (s : IsEnding d)
 
   pub cut_ends : AllFlowEnds cut_d
   cut_ends p code e =
-      let is = coded_from_cut p (record { code = code; is = e }) in
+      let is = coded_from_cut (record { code = code; is = e }) in
       elim (cases_first is_gauge (follow d p) (moves d)) [
         | inl w ↦ ap (code_at cut_d) (last_first p w) ∙ cut.at_gauges (follow d p w.at) w.passes
         | inr w ↦
@@ -212,7 +212,7 @@ module _ (d : Directed) (s : IsEnding d)
   agree q g a b = elim (cases_Bool (is_place q g)) [
     | inl same ↦ eq-eqb _ _ (ap (index_of d.cols) (sym (place_is q g same))) ∙ sym same
     | inr apart ↦ ne_eqb _ _ (λ e. false≢true (sym apart ∙ is_place_from q g (sym
-        (index_injective d.cols g q (coded_inside d g b).1 (coded_inside d q a).1 e)))) ∙ sym apart
+        (index_injective d.cols g q (coded_inside b).1 (coded_inside a).1 e)))) ∙ sym apart
   ]
 
   numbered_at : (q : Place) → IsCoded d q →
@@ -235,12 +235,12 @@ module _ (d : Directed) (s : IsEnding d)
       | inl none ↦ match_none (code_at d p) _ _ none (elim (cases_coded cut_d p) [
         | inl none_cut ↦ MatchOption-at_none _ _ none_cut (made.each p inside)
         | inr is ↦
-            (let here = coded_from_cut p is in absurd (none-some here.code (sym none ∙ here.is)))
+            (let here = coded_from_cut is in absurd (none-some here.code (sym none ∙ here.is)))
       ])
       | inr is ↦
           let there = coded_to_cut p is in
           let last =
-          coded_from_cut (last_of cut_d p) (coded_along cut_d cut_ends p there (moves cut_d)) in
+          coded_from_cut (coded_along cut_ends there (moves cut_d)) in
           match_some (code_at d p) _ _ is.code is.is (
           MatchOption-at_some _ _ there.code there.is (made.each p inside)
           ∙ ap Some (numbers (index_of d.cols (last_of cut_d p))

@@ -47,7 +47,7 @@ module _ (x : ℕ → ℕ) (step : (a b : ℕ) → x a ≡ x b → x (suc a) ≡
     | inr none ↦ elim (cases_eq (x (suc n)) (x n)) [
       | inl e ↦ inl (n, omega arith, e)
       | inr ne ↦ inr (λ k h. elim (cases_eq k n) [
-        | inl e ↦ (λ stop. ne (subst (λ (j : ℕ). x (suc j) ≡ x j) e stop))
+        | inl e ↦ (λ stop. ne (rw e at stop))
         | inr other ↦ none k (omega arith)
       ])
     ]
@@ -103,10 +103,10 @@ pub node_after-first : (links : List ℕ) (i k : ℕ) →
 node_after-first links i zero = refl
 node_after-first links i (suc k) = ap (next_node links) (node_after-first links i k)
 
-pub node_after-stays : (links : List ℕ) (i : ℕ) → next_node links i ≡ i → (k : ℕ) →
+pub node_after-stays : (links : List ℕ) {i : ℕ} → next_node links i ≡ i → (k : ℕ) →
     node_after links i k ≡ i
-node_after-stays links i e zero = refl
-node_after-stays links i e (suc k) = ap (next_node links) (node_after-stays links i e k) ∙ e
+node_after-stays links e zero = refl
+node_after-stays links {i} e (suc k) = ap (next_node links) (node_after-stays links e k) ∙ e
 
 pub end-onward : (links : List ℕ) → AreStreams links → (i : ℕ) → i < length links →
     end_of links (next_node links i) ≡ end_of links i

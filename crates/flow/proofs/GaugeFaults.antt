@@ -34,10 +34,10 @@ not_not true = refl
 not_not false = refl
 
 -- If `none` says whether p lacks a code, it says whether p lacks a height.
-pub none_of_code : (d : Drained) → IsDraining d → (p : Place) (code : Option ℕ) (none : Bool) →
+pub none_of_code : {d : Drained} → IsDraining d → (p : Place) {code : Option ℕ} (none : Bool) →
     code ≡ code_at (directed_of d) p → is_some code ≡ not none →
     is_none (height_at d.terrain p) ≡ none
-none_of_code d draining p code none read is =
+none_of_code {d} draining p none read is =
     none_is (height_at d.terrain p)
     ∙ ap not (sym (draining.same_data p) ∙ ap is_some (sym read) ∙ is) ∙ not_not none
 
@@ -45,7 +45,7 @@ no_sink_fault : (o : Option SinkFault) → option_map fault_of_gauge o ≡ None 
 no_sink_fault None e = refl
 no_sink_fault (Some f) e = absurd (cc)
 
-module _ (d : Drained) (draining : IsDraining d) (gauges : List Place)
+module _ {d : Drained} (draining : IsDraining d) (gauges : List Place)
     (none : gauges_fault d.terrain gauges ≡ None) where
   no_fault : sinks_fault d.terrain gauges ≡ None
   no_fault = no_sink_fault (sinks_fault d.terrain gauges) none
@@ -59,9 +59,8 @@ module _ (d : Drained) (draining : IsDraining d) (gauges : List Place)
   have_codes : HaveCodes d.terrain.cols d.terrain.rows d.codes gauges
   have_codes p named =
       let there = listed_from_any p gauges named in
-      subst (λ (q : Place). is_some (code_at (directed_of d) q) ≡ true) there.2
-      (draining.same_data (get_or gauges there.0 p) ∙ (all_sound there.0 p there.1).1)
+      rw there.2 at (draining.same_data (get_or gauges there.0 p) ∙ (all_sound there.0 p there.1).1)
 
-  pub have_codes_in : (t : Cutting) (codes : List (Option ℕ)) → Cuts t d.terrain → codes ≡ d.codes →
+  pub have_codes_in : (t : Cutting) {codes : List (Option ℕ)} → Cuts t d.terrain → codes ≡ d.codes →
       HaveCodes t.cols t.rows codes gauges
-  have_codes_in t codes cuts same p named = rw (same, cuts.0, cuts.1) (have_codes p named)
+  have_codes_in t cuts same p named = rw (same, cuts.0, cuts.1) (have_codes p named)

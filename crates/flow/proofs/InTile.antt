@@ -58,7 +58,7 @@ pub record IsPiece (d : Directed) (c : Cutting) (tile : ℕ) (b : Bounds) (links
   pub places : (p : Place) → IsInTile c tile p ↔ IsInBounds b p
   pub made : AreTileLinks d b links
 
-module _ (d : Directed) (c : Cutting) (tile : ℕ) (b : Bounds) (links : List ℕ)
+module _ {d : Directed} {c : Cutting} {tile : ℕ} {b : Bounds} {links : List ℕ}
     (s : IsPiece d c tile b links) where
   pub in_place : (i : ℕ) → i < length links → IsInBounds b (place_in b i)
   in_place i h = place_in_bounds b i s.inside.some_col (omega (arith, h, s.made.size))
@@ -84,7 +84,7 @@ module _ (d : Directed) (c : Cutting) (tile : ℕ) (b : Bounds) (links : List �
   pub self_link : (i : ℕ) → i < length links → next d (place_in b i) ≡ place_in b i →
       next_node links i ≡ i
   self_link i h e =
-      link_is i h ∙ link-in d b i (subst (λ (q : Place). IsInBounds b q) (sym e) (in_place i h))
+      link_is i h ∙ link-in d b i (rw e (in_place i h))
       ∙ ap (index_in b) e ∙ index_in-place_in b i
 
   pub link_place : (i : ℕ) → i < length links → IsInBounds b (next d (place_in b i)) →
@@ -101,8 +101,8 @@ module _ (d : Directed) (c : Cutting) (tile : ℕ) (b : Bounds) (links : List �
     pub here : place_in b (node_after links j k) ≡ follow d (place_in b j) met
     pub done : (met ≡ k) ⊎ IsStop links j k
 
-  stopped : (j k : ℕ) → FollowsLinks j k → IsStop links j k → FollowsLinks j (suc k)
-  stopped j k t stop = record {
+  stopped : {j k : ℕ} → FollowsLinks j k → IsStop links j k → FollowsLinks j (suc k)
+  stopped t stop = record {
     met = t.met;
     few = omega (arith, t.few);
     way = t.way;
@@ -114,7 +114,7 @@ module _ (d : Directed) (c : Cutting) (tile : ℕ) (b : Bounds) (links : List �
       IsInBounds b (follow d (place_in b j) (suc m)) →
       (l : ℕ) → l ≤ suc m → IsInBounds b (follow d (place_in b j) l)
   way_on j m way more l le = elim (cases_eq l (suc m)) [
-    | inl e ↦ subst (λ (n : ℕ). IsInBounds b (follow d (place_in b j) n)) (sym e) more
+    | inl e ↦ rw e more
     | inr ne ↦ way l (omega arith)
   ]
 
@@ -130,16 +130,16 @@ module _ (d : Directed) (c : Cutting) (tile : ℕ) (b : Bounds) (links : List �
   follows_links j h (suc k) =
       let t = follows_links j h k in
       elim t.done [
-        | inr stop ↦ stopped j k t stop
+        | inr stop ↦ stopped t stop
         | inl same ↦ elim (cases_bounds b (next d (place_in b (node_after links j k)))) [
-          | inr out ↦ stopped j k t (link_is (node_after links j k) (node_inside j h k)
+          | inr out ↦ stopped t (link_is (node_after links j k) (node_inside j h k)
               ∙ link-out d b (node_after links j k) out)
           | inl y ↦ (let on : next d (place_in b (node_after links j k))
               ≡ follow d (place_in b j) (suc t.met) = ap (next d) t.here in
               record {
                 met = suc t.met;
                 few = omega (arith, t.few);
-                way = way_on j t.met t.way (subst (λ (q : Place). IsInBounds b q) on y);
+                way = way_on j t.met t.way (rw on at y);
                 here = link_place (node_after links j k) (node_inside j h k) y ∙ on;
                 done = inl (ap suc same);
               })
@@ -164,8 +164,8 @@ module _ (d : Directed) (c : Cutting) (tile : ℕ) (b : Bounds) (links : List �
   pub tile_streams : AreStreams links
   tile_streams = streams_from links links_inside stops
 
-  pub coded_within : (p : Place) → IsCoded d p → IsWithin c p
-  coded_within p is = let w = coded_inside d p is in
+  pub coded_within : {p : Place} → IsCoded d p → IsWithin c p
+  coded_within {p} is = let w = coded_inside is in
       (omega (arith, w.0, s.rows), omega (arith, w.1, s.cols))
 
   pub few_cells : length links ≤ moves d
@@ -193,7 +193,7 @@ module _ (d : Directed) (c : Cutting) (tile : ℕ) (b : Bounds) (links : List �
       let at : follow d (place_in b i) t.met ≡ place_in b (end_of links i) = sym t.here
       ∙ ap (place_in b) last in
       let coded =
-      subst (λ (q : Place). IsCoded d q) at (coded_along d s.ends (place_in b i) is t.met) in
+      subst (λ (q : Place). IsCoded d q) at (coded_along s.ends is t.met) in
       let stop : next_node links (end_of links i) ≡ end_of links i = tile_streams.ends i h in
       let inside = node_inside i h (length links) in (
         t.met,
@@ -203,11 +203,11 @@ module _ (d : Directed) (c : Cutting) (tile : ℕ) (b : Bounds) (links : List �
         (
           ap (λ (o : Option ℕ). is_some o) coded.is,
           elim (cases_bounds b (next d (place_in b (end_of links i)))) [
-            | inl y ↦ inl (outlet_from_stays d s.ends (place_in b (end_of links i)) coded
+            | inl y ↦ inl (outlet_from_stays s.ends coded
                 (sym (link_place (end_of links i) inside y) ∙ ap (place_in b) stop))
             | inr out ↦ inr (λ same. out ((s.places (next d (place_in b (end_of links i)))).0 (
-              coded_within (next d (place_in b (end_of links i)))
-                  (coded_along d s.ends (place_in b (end_of links i)) coded 1),
+              coded_within
+                  (coded_along s.ends coded 1),
               same ∙ tile_is (place_in b (end_of links i)) (in_place (end_of links i) inside),
             )))
           ],

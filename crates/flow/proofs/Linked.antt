@@ -14,9 +14,9 @@ use Rattle.flow.specs.Links.{AreLinks}
 use Rattle.flow.proofs.Coded.{coded_from_some}
 use Rattle.flow.proofs.RimFlows.{within_of}
 
-pub flows_from : (d : Directed) (t : Cutting) (flows : List Flow) → IsCutting t → AllFlowEnds d →
+pub flows_from : {d : Directed} {t : Cutting} {flows : List Flow} → IsCutting t → AllFlowEnds d →
     AreTileFlows d t flows → AreFlowsOf d t flows
-flows_from d t flows cutting ends are =
+flows_from cutting ends are =
     record {
       cutting = cutting;
       ends = ends;
@@ -27,20 +27,20 @@ flows_from d t flows cutting ends are =
       };
     }
 
-pub counts_from : (d : Directed) (t : Cutting) (flows : List Flow) → AreTileFlows d t flows →
+pub counts_from : {d : Directed} {t : Cutting} {flows : List Flow} → AreTileFlows d t flows →
     AreTileCounts d t flows
-counts_from d t flows are = record { each = λ tile f there. (are.each tile f there).counts }
+counts_from are = record { each = λ tile f there. (are.each tile f there).counts }
 
-pub links_are : (d : Directed) (t : Cutting) (flows : List Flow) → AreFlowsOf d t flows →
-    (i : Inflows) (o : Outlets) → i.cutting ≡ t → o.cutting ≡ t → AreInflows d t i →
+pub links_are : {d : Directed} {t : Cutting} {flows : List Flow} → AreFlowsOf d t flows →
+    {i : Inflows} {o : Outlets} → i.cutting ≡ t → o.cutting ≡ t → AreInflows d t i →
     AreOutlets d t flows o →
     AreLinks d t
     (record { cutting = o.cutting; flows = flows; inflows = i.listed; outlets = o.listed })
-links_are d t flows s i o same here inflows outlets = record {
+links_are {d} {t} {flows} s {i} {o} same here inflows outlets = record {
   cutting = here;
   inflows = λ p w. ap (λ (x : Cutting). inflow_by x i.listed p) (here ∙ sym same)
       ∙ inflows.each p w;
-  outlets = λ p x. (let w = within_of d t flows s p (coded_from_some d p x.0) in
+  outlets = λ p x. (let w = within_of s (coded_from_some d p x.0) in
       let inside : is_within o.cutting p ≡ true = ap (λ (c : Cutting). is_within c p) here
       ∙ and_from _ _ (lt-ltb _ _ w.0) (lt-ltb _ _ w.1) in
       cond-true {A = Option Place} _ (outlet_by o.cutting flows o.listed p) None inside

@@ -67,12 +67,12 @@ module _ (o : Outlets) (flows : List Flow) (n : EndNumbers) (b : Bounds) where
       subst (λ (p : Place). IsNumberedPlace o flows n b p) (sym (place_in-index_in b e is.inside)
       ∙ ap (place_in b) (sym (same_Some exit (index_in b e) some)) ∙ sym at) is
 
-  pub exit_number_own : (i exit : ℕ) (x : Option Place) → Some exit ≡ option_map (index_in b) x →
+  pub exit_number_own : {i exit : ℕ} (x : Option Place) → Some exit ≡ option_map (index_in b) x →
       exit ≡ i → IfSome x (IsNumberedPlace o flows n b) →
       number_at o.cutting.cols n (listed_outlet o flows (place_in b exit))
       ≡ exit_number_by o flows n b i x
-  exit_number_own i exit None some own is = absurd (none-some exit (sym some))
-  exit_number_own i exit (Some e) some own is =
+  exit_number_own {exit = exit} None some own is = absurd (none-some exit (sym some))
+  exit_number_own {i} {exit} (Some e) some own is =
       let at : exit ≡ index_in b e = same_Some exit (index_in b e) some in
       ap (λ (p : Place). number_at o.cutting.cols n (listed_outlet o flows p)) (ap (place_in b) at
       ∙ place_in-index_in b e is.inside)
@@ -117,11 +117,11 @@ row_code v b r k e a below inside =
     (omega arith) (omega arith))
     ∙ ap (λ (p : Place). code_at (directed_by v) p) (sym (place_in_row b r k inside))
 
-pub row_added : (v : View (Option ℕ)) (b : Bounds) (r : ℕ) (cells row new : List (Option ℕ)) →
+pub row_added : {v : View (Option ℕ)} {b : Bounds} {r : ℕ} {cells row new : List (Option ℕ)} →
     b ≡ bounds_of v.cutting v.tile → AreBounds v.cutting b → r < b.rows →
     row ≡ row_shown v r → length row ≡ b.cols → new ≡ cells ++ row → AreFirstRows v b r cells →
     AreFirstRows v b (r + 1) new
-row_added v b r cells row new e a below is size made so_far =
+row_added {v} {b} {r} {cells} {row} e a below is size made so_far =
     let more : (r + 1) * b.cols ≡ r * b.cols + b.cols = ap (λ n. n * b.cols) (omega arith)
     ∙ suc-mul r b.cols in
     record {

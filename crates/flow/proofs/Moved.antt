@@ -46,8 +46,8 @@ touches_self p =
 pub next_touches : (p : Place) (code : Option ℕ) → Touches p (led p code)
 next_touches p None = touches_self p
 next_touches p (Some c) = elim (cases_option (place_toward c p)) [
-  | inl none ↦ subst (λ (o : Option Place). Touches p (unwrap_or o p)) (sym none) (touches_self p)
-  | inr q ↦ subst (λ (o : Option Place). Touches p (unwrap_or o p)) (sym q.1) (toward_touches p q.0 c q.1)
+  | inl none ↦ rw none (touches_self p)
+  | inr q ↦ rw q.1 (toward_touches p q.0 c q.1)
 ]
 
 pub few_cells : (b : Bounds) → b.top + b.rows ≤ longest_axis → b.left + b.cols ≤ longest_axis →
@@ -58,7 +58,7 @@ few_cells b rows cols =
     let most : b.rows * b.cols ≤ 4096 * 4096 = mul-le-mul r k in
     omega arith
 
-module _ (b : Bounds) (i : ℕ) (p : Place) (at : p ≡ place_in b i) (code : Option ℕ) (q : Place)
+module _ (b : Bounds) (i : ℕ) {p : Place} (at : p ≡ place_in b i) (code : Option ℕ) {q : Place}
     (is : q ≡ led p code) where
   linked : link_by b i code ≡ cond {A = ℕ} (is_in_bounds b q) (index_in b q) i
   linked = sym (ap (λ (z : Place). cond {A = ℕ} (is_in_bounds b z) (index_in b z) i)
@@ -82,11 +82,11 @@ module _ (b : Bounds) (i : ℕ) (p : Place) (at : p ≡ place_in b i) (code : Op
   ]
 
   pub down_few : (q.row + 1 - p.row ≤ 2) × (p.row ≤ q.row + 1)
-  down_few = let t = subst (λ (z : Place). Touches p z) (sym is) (next_touches p code) in
+  down_few = let t = rw (← is) at (next_touches p code) in
       (omega (arith, t.row_down), t.row_up)
 
   pub right_few : (q.col + 1 - p.col ≤ 2) × (p.col ≤ q.col + 1)
-  right_few = let t = subst (λ (z : Place). Touches p z) (sym is) (next_touches p code) in
+  right_few = let t = rw (← is) at (next_touches p code) in
       (omega (arith, t.col_right), t.col_left)
 
   pub moves_there : IsInBounds b p → IsInBounds b q →
@@ -123,7 +123,7 @@ way_reach cols i way below high = eight (λ way. reach cols i (get_or way_moves 
     (omega arith) (omega arith) (omega arith) (omega arith) (omega arith) (omega arith) (omega arith) (omega arith)
     way below
 
-module _ (b : Bounds) (r k : ℕ) (interior : IsInteriorAt b r k) where
+module _ {b : Bounds} {r k : ℕ} (interior : IsInteriorAt b r k) where
   abbrev here : Place
   here = make_place (b.top + r) (b.left + k)
 
@@ -141,7 +141,7 @@ module _ (b : Bounds) (r k : ℕ) (interior : IsInteriorAt b r k) where
 
   pub stays_interior : (code : Option ℕ) → option_and_then (λ c. place_toward c here) code ≡ None →
       IsMove b (r * b.cols + k) code 5
-  stays_interior code none = stay_at b (r * b.cols + k) here here_is code (led here code) refl
+  stays_interior code none = stay_at b (r * b.cols + k) here_is code refl
       (ap (λ (o : Option Place). unwrap_or o here) none)
 
   pub goes_on_way : (n way : ℕ) → way_of n ≡ Some way → way < 8 →
@@ -152,7 +152,7 @@ module _ (b : Bounds) (r k : ℕ) (interior : IsInteriorAt b r k) where
       (omega (arith, interior.first_row)) (omega (arith, interior.first_col)) at_here way below in
       way_reach b.cols (r * b.cols + k) way below past_first
       ∙ ap (λ (n : ℕ). n + (b.cols + 1)) (sym q.1.index
-      ∙ sym (link_inside b (r * b.cols + k) here here_is (Some n) q.0
+      ∙ sym (link_inside b (r * b.cols + k) here_is (Some n)
       (sym (ap (λ (o : Option ℕ). unwrap_or (option_and_then (λ way. place_on way here) o) here) is
       ∙ ap (λ (o : Option Place). unwrap_or o here) q.1.on)) (
         omega (arith, interior.first_row, q.1.touches.row_up),
@@ -174,7 +174,7 @@ link_below b i code h =
       | inr n ↦ omega (arith, cond-false {A = ℕ} _ (index_in b q) i n, h)
     ]
 
-module _ (b : Bounds) (cells : List (Option ℕ)) (moves : List ℕ) (small : EndsInLargestGrid b)
+module _ {b : Bounds} {cells : List (Option ℕ)} {moves : List ℕ} (small : EndsInLargestGrid b)
     (s : AreFirstMoves b cells (b.rows * b.cols) moves) where
   pub moves_fit : AreMoves b.cols moves
   moves_fit = record {
@@ -211,11 +211,11 @@ moves_below cols moves links i seen h = omega (
 )
 
 -- The move that is read for a cell leads to the cell's link, by numbers that fit.
-pub next_read : (cols : ℕ) (moves links : List ℕ) (i move : ℕ) → AreMoves cols moves →
+pub next_read : {cols : ℕ} {moves links : List ℕ} (i : ℕ) {move : ℕ} → AreMoves cols moves →
     moved_by cols moves ≡ links → i < length links → move ≡ get_or moves i move →
     (cols + 1 ≤ reach cols i move) × (reach cols i move < 2 ^ 32)
     × (reach cols i move - (cols + 1) ≡ get_or links i 0)
-next_read cols moves links i move fit seen h read =
+next_read {cols} {moves} {links} i {move} fit seen h read =
     let below = moves_below cols moves links i seen h in
     let at = ap (reach cols i) (read ∙ get_or_default moves i move 0 below) in (
       omega (arith, fit.low i below, at),

@@ -17,7 +17,7 @@ use Rattle.tiles.proofs.TileOrder.{place_in_tile, index_in-place_in, index_in_be
 use Rattle.drainage.specs.Following.{Directed, code_at, last_of}
 use Rattle.flow.specs.Counts.{IsValueAt}
 use Rattle.flow.specs.TileFlow.{Flow, exit_in, IsTileExits, IsExitOf, IsExitCell}
-use Rattle.flow.specs.Whole.{is_outlet_code, make_directed}
+use Rattle.flow.specs.Whole.{is_outlet_code, make_directed, directed_on}
 use Rattle.flow.specs.RimGraph.{AreFlowsOf, AreOutlets, Outlets, listed_outlet}
 use Rattle.flow.specs.Numbering.{EndNumbers, end_number, outlet_numbers, IsNumbering, IsReady, AreReady, IsNumberedPlace, number_at, exit_number_by, exit_numbers_by, cell_number, cell_numbers_by}
 use Rattle.flow.proofs.Coded.{IsCoded, cases_coded, coded_along, coded_inside}
@@ -32,23 +32,21 @@ outlet_number_few codes few i =
     omega (arith, few, count_by-le-length is_outlet_code before, length-take i codes)
 
 -- A map's flows, the outlets found from them, and numbers below `uncounted` meet `IsNumbering`.
-pub numbering_of : (t : Cutting) (codes : List (Option ℕ)) (flows joined : List Flow) (o : Outlets)
+pub numbering_of : {t : Cutting} (codes : List (Option ℕ)) {flows joined : List Flow} (o : Outlets)
     (n : EndNumbers) →
-    AreFlowsOf (make_directed t.cols t.rows codes) t flows → joined ≡ flows → o.cutting ≡ t →
+    AreFlowsOf (directed_on t codes) t flows → joined ≡ flows → o.cutting ≡ t →
     ((d : Directed) → AreFlowsOf d t joined → AreOutlets d t joined o) →
     n.cells ≡ t.cols * t.rows → ((i : ℕ) → i < n.cells → n.number i < uncounted) →
-    IsNumbering (make_directed t.cols t.rows codes) t flows o n
-numbering_of t codes flows joined o n are same cutting outlets size few = record {
+    IsNumbering (directed_on t codes) t flows o n
+numbering_of {t} codes o n are same cutting outlets size few = record {
   are_flows = are;
-  are_outlets = subst (λ (x : List Flow). AreFlowsOf (make_directed t.cols t.rows codes) t x →
-      AreOutlets (make_directed t.cols t.rows codes) t x o) same
-      (outlets (make_directed t.cols t.rows codes)) are;
+  are_outlets = rw same at (outlets (directed_on t codes)) are;
   same_cutting = cutting;
   size = size;
   few = few;
 }
 
-module _ (d : Directed) (t : Cutting) (flows : List Flow) (o : Outlets) (n : EndNumbers)
+module _ {d : Directed} {t : Cutting} {flows : List Flow} {o : Outlets} {n : EndNumbers}
     (s : IsNumbering d t flows o n) where
   same_cols : o.cutting.cols ≡ d.cols
   same_cols = ap (λ (c : Cutting). c.cols) s.same_cutting ∙ sym s.are_flows.of_tiles.size.0
@@ -59,7 +57,7 @@ module _ (d : Directed) (t : Cutting) (flows : List Flow) (o : Outlets) (n : End
   last_below : (p : Place) → IsCoded d p → index_of d.cols (last_of d p) < n.cells
   last_below p is =
       let w =
-      coded_inside d (last_of d p) (coded_along d s.are_flows.ends p is (d.cols * d.rows)) in
+      coded_inside (coded_along s.are_flows.ends is (d.cols * d.rows)) in
       omega (arith, index_below d.cols d.rows (last_of d p) w.0 w.1, s.size)
 
   numbered_last : (e : Place) → IsExitCell d t e → IsCoded d e →
@@ -67,8 +65,7 @@ module _ (d : Directed) (t : Cutting) (flows : List Flow) (o : Outlets) (n : End
   numbered_last e cell is =
       let below : index_of o.cutting.cols (last_of d e) < n.cells =
       omega (arith, last_below e is, ap (λ cols. index_of cols (last_of d e)) same_cols) in
-      subst (λ (x : Option Place). IfSome x (λ q. index_of o.cutting.cols q < n.cells))
-      (sym (s.are_outlets.outlets e cell)) below
+      rw (s.are_outlets.outlets e cell) below
 
   number_few : (p : Place) → IsCoded d p → end_number d n p < uncounted
   number_few p is = s.few (index_of d.cols (last_of d p)) (last_below p is)
@@ -81,8 +78,7 @@ module _ (d : Directed) (t : Cutting) (flows : List Flow) (o : Outlets) (n : End
     cell_size = right.lawful.exits_size ∙ ap (λ (b : Bounds). b.rows * b.cols) right.bounds
 
     in_flow : (p : Place) → IsInTile t tile p → IsInBounds f.bounds p
-    in_flow p i = subst (λ (b : Bounds). IsInBounds b p) (sym right.bounds)
-        (in_bounds t tile p s.are_flows.cutting i)
+    in_flow p i = rw right.bounds (in_bounds t tile p s.are_flows.cutting i)
 
     index_few : (p : Place) → IsInTile t tile p → index_in f.bounds p < length f.exits
     index_few p i = omega (arith, index_in_below f.bounds p (in_flow p i), right.lawful.exits_size)
@@ -103,13 +99,13 @@ module _ (d : Directed) (t : Cutting) (flows : List Flow) (o : Outlets) (n : End
     has_exit : (p : Place) → IsInTile t tile p → IsCoded d p → Has p
     has_exit p i is =
         let m = MatchOption-at_some _ _ is.code is.is (right.each p i) in
-        let x = exit_in_tile d t flows s.are_flows p m.0 is m.2 in
+        let x = exit_in_tile s.are_flows p m.0 is m.2 in
         record {
           exit = m.0;
           listed = exit_entry p i ∙ m.1;
           leads = m.2;
           coded = x.0;
-          inside = (within_of d t flows s.are_flows m.0 x.0, x.1 ∙ i.1);
+          inside = (within_of s.are_flows x.0, x.1 ∙ i.1);
         }
 
     no_exit : (p : Place) → IsInTile t tile p → code_at d p ≡ None →
@@ -120,12 +116,10 @@ module _ (d : Directed) (t : Cutting) (flows : List Flow) (o : Outlets) (n : End
     exit_is_numbered : (p : Place) → IsInTile t tile p →
         IfSome (get_or f.exits (index_in f.bounds p) None) (IsNumberedPlace o flows n f.bounds)
     exit_is_numbered p i = elim (cases_coded d p) [
-      | inl none ↦ subst (λ (x : Option Place). IfSome x (IsNumberedPlace o flows n f.bounds))
-          (sym (no_exit p i none)) tt
+      | inl none ↦ rw (no_exit p i none) tt
       | inr is ↦
           let h = has_exit p i is in
-          subst (λ (x : Option Place). IfSome x (IsNumberedPlace o flows n f.bounds)) (sym h.listed)
-          (record {
+          rw h.listed (record {
             inside = in_flow h.exit h.inside;
             within = subst (λ (c : Cutting). IsWithin c h.exit) (sym s.same_cutting) h.inside.0;
             numbered = numbered_last h.exit (h.leads).4 h.coded;
@@ -136,16 +130,14 @@ module _ (d : Directed) (t : Cutting) (flows : List Flow) (o : Outlets) (n : End
     tile_ready = record {
       size = cell_size;
       exits = λ i. elim (cases_lt i (length f.exits)) [
-        | inr far ↦ subst (λ (x : Option Place). IfSome x (IsNumberedPlace o flows n f.bounds))
-            (sym (get_or_past f.exits i None far)) tt
+        | inr far ↦ rw (get_or_past f.exits i None far) tt
         | inl below ↦
             let tile_below : tile < tile_count t =
             omega (arith, slice_get_within flows tile f there, s.are_flows.of_tiles.count) in
             let inside = subst (λ (b : Bounds). IsInTile t tile (place_in b i))
             (sym right.bounds) (place_in_tile t tile i s.are_flows.cutting tile_below
             (omega (arith, below, cell_size))) in
-            subst (λ k. IfSome (get_or f.exits k None) (IsNumberedPlace o flows n f.bounds))
-            (index_in-place_in f.bounds i) (exit_is_numbered (place_in f.bounds i) inside)
+            rw (index_in-place_in f.bounds i) at (exit_is_numbered (place_in f.bounds i) inside)
       ];
     }
 
@@ -155,7 +147,7 @@ module _ (d : Directed) (t : Cutting) (flows : List Flow) (o : Outlets) (n : End
     exit_number_is p is h =
         let own = has_exit h.exit h.inside h.coded in
         let listed : get_or f.exits (index_in f.bounds h.exit) None ≡ Some h.exit = own.listed
-        ∙ ap Some (exit_of_exit d t flows s.are_flows h.exit own.exit (h.leads).4 own.leads) in
+        ∙ ap Some (exit_of_exit s.are_flows h.exit own.exit (h.leads).4 own.leads) in
         get_or-map-range_with_len (λ i. exit_number_by o flows n f.bounds i
         (get_or f.exits i None)) 0 (length f.exits) (index_in f.bounds h.exit)
         (index_in f.bounds h.exit) 0 (index_few h.exit h.inside) (omega arith)
@@ -165,13 +157,13 @@ module _ (d : Directed) (t : Cutting) (flows : List Flow) (o : Outlets) (n : End
         ∙ ap (number_at o.cutting.cols n) (s.are_outlets.outlets h.exit (h.leads).4)
         ∙ number_of_last h.exit
         ∙ ap (λ (q : Place). n.number (index_of d.cols q))
-        (last_same d t flows s.are_flows p h.exit (h.leads).0 is (h.leads).3)
+        (last_same s.are_flows (h.leads).0 is (h.leads).3)
 
     -- The value at each place of the tile is the number of its path's end, `None` at NODATA.
-    pub entry_numbered : (values : List (Option ℕ)) →
+    pub entry_numbered : {values : List (Option ℕ)} →
         values ≡ cell_numbers_by f.bounds (exit_numbers_by o flows n f) f.exits → (p : Place) →
         IsInTile t tile p → IsValueAt d (end_number d n) p (tile_entry t tile values p)
-    entry_numbered values made p i =
+    entry_numbered {values} made p i =
         let entry : tile_entry t tile values p ≡ cell_number f.bounds (exit_numbers_by o flows n f)
         (get_or f.exits (index_in f.bounds p) None) =
         tile_entry-in t tile values p i

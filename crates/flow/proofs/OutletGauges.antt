@@ -23,7 +23,7 @@ use Rattle.flow.proofs.Coded.{IsCoded, outlet_stays, follow_stays}
 use Rattle.flow.proofs.DrainedCells.{cell}
 use Rattle.flow.proofs.Reaching.{IsEnding, cell_back, cell_below, reached_early}
 use Rattle.tile_jobs.proofs.Sums.{sum_more}
-use Rattle.flow.proofs.Ranges.{whole_bounds}
+use Rattle.flow.proofs.Ranges.{whole_bounds, grid_of}
 
 map_ranges : {X : Type 0} (f : ℕ → X) (a n m : ℕ) → map f (range_with_len a n)
     ++ map f (range_with_len (a + n) m) ≡ map f (range_with_len a (n + m))
@@ -140,7 +140,7 @@ any_filtered p t (x ∷ xs) some = elim (cases_Bool (t x)) [
       ]
 ]
 
-module _ (d : Directed) (s : IsEnding d) (size : length d.codes ≡ d.cols * d.rows) where
+module _ {d : Directed} (s : IsEnding d) (size : length d.codes ≡ d.cols * d.rows) where
   abbrev is_outlet : Place → Bool
   is_outlet q = is_outlet_code (code_at d q)
 
@@ -154,11 +154,11 @@ module _ (d : Directed) (s : IsEnding d) (size : length d.codes ≡ d.cols * d.r
       let p = cell d k in
       let r : p.row - 0 ≡ p.row = omega arith in
       let c : p.col - 0 ≡ p.col = omega arith in
-      omega (arith, index_in-place_in (whole_bounds d.cols d.rows) k, ap (λ n. n * d.cols) r, c)
+      omega (arith, index_in-place_in (grid_of d) k, ap (λ n. n * d.cols) r, c)
 
   code_of_cell : (k : ℕ) → k < d.rows * d.cols → code_at d (cell d k) ≡ get_or d.codes k None
   code_of_cell k below =
-      let w = place_in_bounds (whole_bounds d.cols d.rows) k s.some_col below in
+      let w = place_in_bounds (grid_of d) k s.some_col below in
       entry-inside d.cols d.rows d.codes (cell d k) (omega (arith, w)) (omega (arith, w))
       ∙ ap (λ i. get_or d.codes i None) (index_of_cell k)
 
@@ -183,19 +183,19 @@ module _ (d : Directed) (s : IsEnding d) (size : length d.codes ≡ d.cols * d.r
   coded_outlet : (q : Place) → IsOutlet d q → IsCoded d q
   coded_outlet q is = record { code = 0; is = is }
 
-  other_index : (q : Place) → IsCoded d q → (k : ℕ) → k < index_in (whole_bounds d.cols d.rows) q →
+  other_index : (q : Place) → IsCoded d q → (k : ℕ) → k < index_in (grid_of d) q →
       is_place q (cell d k) ≡ false
   other_index q is k less = false_from_ne_true _ (λ same.
-      (let e = ap (index_in (whole_bounds d.cols d.rows)) (place_is q (cell d k) same)
-      ∙ index_in-place_in (whole_bounds d.cols d.rows) k in omega (arith, e)))
+      (let e = ap (index_in (grid_of d)) (place_is q (cell d k) same)
+      ∙ index_in-place_in (grid_of d) k in omega (arith, e)))
 
   pub outlet_number : (q : Place) → IsOutlet d q →
       gauge_number (outlets d) q ≡ 1 + count_by is_outlet_code (take (index_of d.cols q) d.codes)
   outlet_number q is =
       let coded = coded_outlet q is in
-      let j = index_in (whole_bounds d.cols d.rows) q in
-      let back = cell_back d s q coded in
-      let below = cell_below d s q coded in
+      let j = index_in (grid_of d) q in
+      let back = cell_back s q coded in
+      let below = cell_below s q coded in
       let index : index_of d.cols q ≡ j = sym (ap (index_of d.cols) back) ∙ index_of_cell j in
       let r = filtered (cell d) (is_place q) is_outlet j (is_place_from q (cell d j) (sym back))
       (ap is_outlet back ∙ ap is_outlet_code is) (other_index q coded) (d.rows * d.cols) 0 1
@@ -239,7 +239,7 @@ module _ (d : Directed) (s : IsEnding d) (size : length d.codes ≡ d.cols * d.r
             (ap (λ (q : Place). 1 + count_by is_outlet_code (take (index_of d.cols q) d.codes))
             last)
         | inr w ↦
-            let m = reached_early d s p (last_of d p) is (moves d) refl in
+            let m = reached_early s is (moves d) refl in
             absurd
             (false≢true (sym (w.fails m.0 m.1) ∙ ap (λ q. list_any (is_place q) (outlets d)) m.3
             ∙ named_outlet (last_of d p) (s.ends p is.code is.is)))

@@ -23,9 +23,9 @@ use Rattle.flow.proofs.InTile.{AreTileLinks, AreTileWeights, IsPiece, tile_strea
 use Rattle.flow.proofs.Moved.{few_cells}
 use Rattle.flow.proofs.TileTotals.{own_totals}
 
-pub bounds_end_in_grid : (t : Cutting) (b : Bounds) → IsCutting t → AreBounds t b →
+pub bounds_end_in_grid : {t : Cutting} {b : Bounds} → IsCutting t → AreBounds t b →
     EndsInLargestGrid b
-bounds_end_in_grid t b h a = record {
+bounds_end_in_grid h a = record {
   some_col = a.some_col;
   few_rows = omega (arith, h.few_rows, a.rows_inside);
   few_cols = omega (arith, h.few_cols, a.cols_inside);
@@ -39,9 +39,9 @@ links_from d b cells codes = record {
       (b.rows * b.cols) i i 0 h (omega arith) ∙ ap (link_by b i) (codes.each i h);
 }
 
-pub weights_from : (d : Directed) (b : Bounds) (cells : List (Option ℕ)) → AreTileCodes d b cells →
+pub weights_from : {d : Directed} {b : Bounds} {cells : List (Option ℕ)} → AreTileCodes d b cells →
     AreTileWeights d b (weights_by cells)
-weights_from d b cells codes = record {
+weights_from {cells = cells} codes = record {
   size = length-map cells (λ (code : Option ℕ). cond {A = ℕ} (is_some code) 1 0) ∙ codes.size;
   each = λ i h. get_or-map (λ (code : Option ℕ). cond {A = ℕ} (is_some code) 1 0) cells i None 0
       (omega (arith, codes.size))
@@ -55,7 +55,7 @@ ends_are links = record {
 }
 
 -- In the lists of one flow each cell has a link, and `ends_by` lists the ends of paths.
-module _ (b : Bounds) (cells : List (Option ℕ)) (links rim_ends : List ℕ)
+module _ {b : Bounds} {cells : List (Option ℕ)} {links rim_ends : List ℕ}
     (s : AreFlowLists b cells links rim_ends) where
   pub as_many_links : length links ≡ length cells
   as_many_links = ap length s.linked ∙ length-map-range_with_len (λ i.
@@ -83,28 +83,28 @@ pub record AreLists (v : View (Option ℕ)) (b : Bounds) (cells : List (Option �
   pub made : links ≡ links_by b cells
   pub weighed : weights ≡ weights_by cells
 
-pub lists_made : (v : View (Option ℕ)) (b : Bounds) (cells given : List (Option ℕ))
-    (links : List ℕ) → AllFlowEnds (directed_by v) → b ≡ bounds_of v.cutting v.tile →
+pub lists_made : {v : View (Option ℕ)} {b : Bounds} {cells given : List (Option ℕ)}
+    {links : List ℕ} → AllFlowEnds (directed_by v) → b ≡ bounds_of v.cutting v.tile →
     AreBounds v.cutting b → IsView v →
     AreTileCodes (directed_by v) (bounds_of v.cutting v.tile) cells → given ≡ cells →
     links ≡ links_by b given → AreLists v b cells links (weights_by cells)
-lists_made v b cells given links ends is inside lawful codes same made = record {
+lists_made {v} {b} {cells} ends is inside lawful codes same made = record {
   ends = ends;
   bounds = is;
   inside = inside;
   lawful = lawful;
-  codes = subst (λ (z : Bounds). AreTileCodes (directed_by v) z cells) (sym is) codes;
+  codes = rw is codes;
   made = made ∙ ap (links_by b) same;
   weighed = refl;
 }
 
 pub match_none : {X : Type 0} (o : Option X) (P : Type 0) (Q : X → Type 0) → o ≡ None → P →
     MatchOption o P Q
-match_none {X} o P Q e p = subst (λ (z : Option X). MatchOption z P Q) (sym e) p
+match_none {X} o P Q e p = rw e p
 
 pub match_some : {X : Type 0} (o : Option X) (P : Type 0) (Q : X → Type 0) (x : X) → o ≡ Some x →
     Q x → MatchOption o P Q
-match_some {X} o P Q x e q = subst (λ (z : Option X). MatchOption z P Q) (sym e) q
+match_some {X} o P Q x e q = rw e q
 
 -- An entry made by `where_data` has its value at a data cell, and is `None` at NODATA.
 pub match_data : {X : Type 0} (o : Option ℕ) (x y : X) (entry : Option X) → entry ≡ where_data o x →
@@ -112,7 +112,7 @@ pub match_data : {X : Type 0} (o : Option ℕ) (x y : X) (entry : Option X) → 
 match_data None x y entry e same = e
 match_data (Some code) x y entry e same = e ∙ ap Some (same code refl)
 
-module _ (v : View (Option ℕ)) (b : Bounds) (cells : List (Option ℕ)) (links weights : List ℕ)
+module _ {v : View (Option ℕ)} {b : Bounds} {cells : List (Option ℕ)} {links weights : List ℕ}
     (s : AreLists v b cells links weights) where
   pub piece : IsPiece (directed_by v) v.cutting v.tile b links
   piece = record {
@@ -122,34 +122,32 @@ module _ (v : View (Option ℕ)) (b : Bounds) (cells : List (Option ℕ)) (links
     ends = s.ends;
     inside = s.inside;
     places = places_from_value v.cutting v.tile b s.lawful.cutting s.lawful.tile s.bounds;
-    made = subst (λ (l : List ℕ). AreTileLinks (directed_by v) b l) (sym s.made)
-        (links_from (directed_by v) b cells s.codes);
+    made = rw s.made (links_from (directed_by v) b cells s.codes);
   }
 
   weighs : AreTileWeights (directed_by v) b weights
-  weighs = subst (λ (w : List ℕ). AreTileWeights (directed_by v) b w) (sym s.weighed)
-      (weights_from (directed_by v) b cells s.codes)
+  weighs = rw s.weighed (weights_from s.codes)
 
   pub streams : AreStreams links
-  streams = tile_streams (directed_by v) v.cutting v.tile b links piece
+  streams = tile_streams piece
 
   pub few : length links ≤ 2 ^ 24
-  few = let small = bounds_end_in_grid v.cutting b s.lawful.cutting s.inside in
+  few = let small = bounds_end_in_grid s.lawful.cutting s.inside in
       omega (arith, piece.made.size, few_cells b small.few_rows small.few_cols)
 
   ending : IsEnding (directed_by v)
-  ending = ending_of (directed_by v) v.cutting s.ends s.lawful.cutting (refl, refl)
+  ending = ending_of (directed_by v) s.ends s.lawful.cutting (refl, refl)
 
   total_drained_inside : (i : ℕ) → i < length links →
       total links weights i ≡ all_drained_inside (directed_by v) v.cutting (place_in b i)
-  total_drained_inside = total_is links weights _ streams
-      (own_totals (directed_by v) ending v.cutting v.tile b links piece weights weighs)
+  total_drained_inside = total_is streams
+      (own_totals ending piece weights weighs)
 
   pub fits : (i : ℕ) → i < length links → total links weights i < 2 ^ 32
   fits i h = omega (
     arith,
     total_drained_inside i h,
-    drained_inside_few (directed_by v) ending v.cutting (place_in b i),
+    drained_inside_few ending v.cutting (place_in b i),
   )
 
   pub sizes : length links ≡ length cells
@@ -171,18 +169,18 @@ module _ (v : View (Option ℕ)) (b : Bounds) (cells : List (Option ℕ)) (links
       (index_in b p) (index_in b p) None (in_cells p h) (omega arith)
       ∙ ap (λ o. where_data o (totals (index_in b p) - 1)) (code_is p h)
 
-  module _ (totals : List ℕ) (summed : AreSums links weights totals) where
+  module _ {totals : List ℕ} (summed : AreSums links weights totals) where
     count_of : (p : Place) → IsInBounds b p → IsCoded (directed_by v) p →
         get_or totals (index_in b p) 0 - 1 ≡ through_of (directed_by v) v.cutting p
     count_of p h is =
         let at = place_in-index_in b p h in
         let i : index_in b p < length links = omega (arith, in_cells p h, sizes) in
-        let there = subst (λ (q : Place). IsCoded (directed_by v) q) (sym at) is in
+        let there = rw (← at) at is in
         omega (
           arith,
           summed.each (index_in b p) i,
           total_drained_inside (index_in b p) i,
-          drained_inside_through (directed_by v) ending v.cutting (place_in b (index_in b p)) there,
+          drained_inside_through ending v.cutting there,
         )
         ∙ ap (through_of (directed_by v) v.cutting) at
 
@@ -202,7 +200,7 @@ module _ (v : View (Option ℕ)) (b : Bounds) (cells : List (Option ℕ)) (links
           (λ code is. count_of p h (record { code = code; is = is })));
     }
 
-  module _ (ends : List ℕ) (last : AreEnds links ends) where
+  module _ {ends : List ℕ} (last : AreEnds links ends) where
     exit_entry : (p : Place) → IsInBounds b p → entry_in b (exits_by b cells ends) p
         ≡ where_data (code_at (directed_by v) p) (place_in b (get_or ends (index_in b p) 0))
     exit_entry p h =
@@ -216,8 +214,8 @@ module _ (v : View (Option ℕ)) (b : Bounds) (cells : List (Option ℕ)) (links
     exit_of p h is =
         let at = place_in-index_in b p h in
         let i : index_in b p < length links = omega (arith, in_cells p h, sizes) in
-        let there = subst (λ (q : Place). IsCoded (directed_by v) q) (sym at) is in
-        let e = exit_is (directed_by v) v.cutting v.tile b links piece (index_in b p) i there in
+        let there = rw (← at) at is in
+        let e = exit_is piece (index_in b p) i there in
         subst (λ (q : Place).
         IsExitOf (directed_by v) v.cutting q (place_in b (get_or ends (index_in b p) 0))) at
         (subst (λ n. IsExitOf (directed_by v) v.cutting (place_in b (index_in b p)) (place_in b n))
@@ -225,7 +223,7 @@ module _ (v : View (Option ℕ)) (b : Bounds) (cells : List (Option ℕ)) (links
 
     flow_lawful : IsFlow (flow_by b cells ends)
     flow_lawful =
-        let small = bounds_end_in_grid v.cutting b s.lawful.cutting s.inside in
+        let small = bounds_end_in_grid s.lawful.cutting s.inside in
         record {
           some_col = small.some_col;
           few_rows = small.few_rows;
@@ -258,14 +256,14 @@ module _ (v : View (Option ℕ)) (b : Bounds) (cells : List (Option ℕ)) (links
       AreFlowLists b cells links rim_ends
   lists_are rim_ends rim = record {
     linked = s.made;
-    lawful = flow_lawful (ends_by links) (ends_are links);
+    lawful = flow_lawful (ends_are links);
     streams = streams;
     rim = rim;
   }
 
-pub codes_from : (d : Directed) (t : Cutting) (tile : ℕ) (f : Flow) → IsCutting t →
+pub codes_from : {d : Directed} {t : Cutting} {tile : ℕ} {f : Flow} → IsCutting t →
     tile < tile_count t → IsTileExits d t tile f → AreTileCodes d (bounds_of t tile) f.codes
-codes_from d t tile f cutting below right = record {
+codes_from {t = t} {tile = tile} {f = f} cutting below right = record {
   size = right.lawful.codes_size ∙ ap (λ (b : Bounds). b.rows * b.cols) right.bounds;
   each = λ i h.
       let inside = place_in_tile t tile i cutting below h in
@@ -279,20 +277,19 @@ codes_from d t tile f cutting below right = record {
 }
 
 -- The codes of a flow with the exits of a view's tile, their links and weights are the tile's.
-pub lists_seen : (v : View (Option ℕ)) (f : Flow) →
+pub lists_seen : {v : View (Option ℕ)} {f : Flow} →
     IsTileExits (directed_by v) v.cutting v.tile f → AllFlowEnds (directed_by v) → IsView v →
     AreLists v f.bounds f.codes (links_by f.bounds f.codes) (weights_by f.codes)
-lists_seen v f right ends lawful = lists_made v f.bounds f.codes f.codes (links_by f.bounds f.codes) ends right.bounds
-    (subst (λ (z : Bounds). AreBounds v.cutting z) (sym right.bounds)
-    (bounds_inside v.cutting v.tile lawful.cutting lawful.tile)) lawful
-    (codes_from (directed_by v) v.cutting v.tile f lawful.cutting lawful.tile right) refl refl
+lists_seen {v} {f} right ends lawful = lists_made ends right.bounds
+    (rw right.bounds (bounds_inside v.cutting v.tile lawful.cutting lawful.tile)) lawful
+    (codes_from lawful.cutting lawful.tile right) refl refl
 
 -- Replacing the counts of a flow keeps its exits.
-pub exits_kept : (d : Directed) (t : Cutting) (tile : ℕ) (f : Flow) (through : List (Option ℕ)) →
+pub exits_kept : {d : Directed} {t : Cutting} {tile : ℕ} {f : Flow} (through : List (Option ℕ)) →
     IsTileExits d t tile f →
     IsTileExits d t tile
     (record { bounds = f.bounds; codes = f.codes; through = through; exits = f.exits })
-exits_kept d t tile f through right = record {
+exits_kept through right = record {
   bounds = right.bounds;
   lawful = record {
     some_col = right.lawful.some_col;

@@ -16,9 +16,14 @@ use Rattle.tile_jobs.specs.Sums.{sum_below}
 use Rattle.tiles.specs.Cutting.{place_in}
 use Rattle.tile_jobs.proofs.Sums.{sum_below-same, sum_below-split}
 use Rattle.std.proofs.lemmas.List.Folds.{Any-from_list_any, list_any_at}
+use Rattle.drainage.specs.Following.{Directed}
 
 abbrev pub whole_bounds : ℕ → ℕ → Bounds
 whole_bounds cols rows = record { top = 0; left = 0; rows = rows; cols = cols }
+
+-- The bounds of the grid of a map of directions.
+abbrev pub grid_of : Directed → Bounds
+grid_of d = whole_bounds d.cols d.rows
 
 module _ (f : Place → ℕ) (cols rows : ℕ) where
   abbrev at : ℕ → ℕ
@@ -98,17 +103,16 @@ pub mapped_pushed : {X : Type 0} (f : ℕ → X) (n : ℕ) (xs ys : List X) (x :
 mapped_pushed f n xs ys x made here pushed = pushed ∙ ap (λ l. l ++ x ∷ []) made
     ∙ ap (λ y. map f (range_with_len 0 n) ++ y ∷ []) here ∙ sym (mapped_next f n)
 
-pub mapped_all : {X : Type 0} (f : ℕ → X) (n m : ℕ) (xs : List X) →
+pub mapped_all : {X : Type 0} (f : ℕ → X) {n m : ℕ} {xs : List X} →
     xs ≡ map f (range_with_len 0 n) → n ≡ m → xs ≡ map f (range_with_len 0 m)
-mapped_all f n m xs made all = made ∙ ap (λ k. map f (range_with_len 0 k)) all
+mapped_all f made all = made ∙ ap (λ k. map f (range_with_len 0 k)) all
 
 -- If P holds of the n entries of xs, and of x at n, it holds of those of xs with x appended.
-pub each_pushed : (P : ℕ → ℕ → Type 0) (n : ℕ) (xs ys : List ℕ) (x : ℕ) → length xs ≡ n →
+pub each_pushed : (P : ℕ → ℕ → Type 0) {n : ℕ} (xs : List ℕ) {ys : List ℕ} (x : ℕ) → length xs ≡ n →
     ((k : ℕ) → k < length xs → P k (get_or xs k 0)) → P n x → ys ≡ xs ++ x ∷ [] → (k : ℕ) →
     k < length ys → P k (get_or ys k 0)
-each_pushed P n xs ys x size each here pushed k h =
-    subst (λ (l : List ℕ). P k (get_or l k 0)) (sym pushed) (below_more
-    (λ i. P i (get_or (xs ++ x ∷ []) i 0)) n
-    (λ i below. subst (P i) (sym (get_or_append_left xs (x ∷ []) 0 i (omega (arith, below, size))))
-    (each i (omega (arith, below, size)))) (subst (P n) (sym (get_or_push xs x 0 n size)) here) k
+each_pushed P {n} xs x size each here pushed k h =
+    rw pushed (below_more (λ i. P i (get_or (xs ++ x ∷ []) i 0)) n
+    (λ i below. rw (get_or_append_left xs (x ∷ []) 0 i (omega (arith, below, size)))
+    (each i (omega (arith, below, size)))) (rw (get_or_push xs x 0 n size) here) k
     (omega (arith, h, ap length pushed, length-append xs (x ∷ []), size)))

@@ -14,7 +14,7 @@ use Rattle.drainage.specs.Drained.{AllFlowEnds}
 use Rattle.terrain.proofs.Listed.{place_is, is_place_from}
 use Rattle.flow.specs.Counts.{drains_through}
 use Rattle.flow.specs.TileFlow.{stays}
-use Rattle.flow.proofs.Ranges.{whole_bounds, some_in_range, any_in_range, every_in_range, all_in_range}
+use Rattle.flow.proofs.Ranges.{whole_bounds, some_in_range, any_in_range, every_in_range, all_in_range, grid_of}
 use Rattle.flow.proofs.Ending.{early_stop}
 use Rattle.flow.proofs.Coded.{IsCoded, coded_along, coded_inside, outlet_stays, follow_stays, follow_more, StopsAt, cycle_stops}
 
@@ -36,9 +36,9 @@ pub record IsEnding (d : Directed) : Type 0 where
   pub few_cols : d.cols ≤ 4096
   pub few_rows : d.rows ≤ 4096
 
-pub ending_of : (d : Directed) (t : Cutting) → AllFlowEnds d → IsCutting t → (d.cols ≡ t.cols)
+pub ending_of : (d : Directed) {t : Cutting} → AllFlowEnds d → IsCutting t → (d.cols ≡ t.cols)
     × (d.rows ≡ t.rows) → IsEnding d
-ending_of d t ends h size = record {
+ending_of d ends h size = record {
   ends = ends;
   some_col = omega (arith, h.some_col, size.0);
   some_row = omega (arith, h.some_row, size.1);
@@ -46,32 +46,32 @@ ending_of d t ends h size = record {
   few_rows = omega (arith, h.few_rows, size.1);
 }
 
-module _ (d : Directed) (s : IsEnding d) where
+module _ {d : Directed} (s : IsEnding d) where
   pub again_stops : (c : Place) → IsCoded d c → (a b : ℕ) → a < b → follow d c a ≡ follow d c b →
       StopsAt d c a
   again_stops c is a b lt same =
-      let coded = coded_along d s.ends c is a in
+      let coded = coded_along s.ends is a in
       let far : a + suc (b - a - 1) ≡ b = omega arith in
-      cycle_stops d (moves d) (follow d c a) (b - a - 1)
+      cycle_stops d (moves d) (b - a - 1)
       (follow_more d c a (suc (b - a - 1)) ∙ ap (follow d c) far ∙ sym same)
       (outlet_stays d (last_of d (follow d c a)) (s.ends (follow d c a) coded.code coded.is))
 
-  pub in_grid : (p : Place) → IsCoded d p → IsInBounds (whole_bounds d.cols d.rows) p
-  in_grid p is = let i = coded_inside d p is in
+  pub in_grid : (p : Place) → IsCoded d p → IsInBounds (grid_of d) p
+  in_grid p is = let i = coded_inside is in
       (omega arith, omega (arith, i.0), omega arith, omega (arith, i.1))
 
   pub cell_below : (p : Place) → IsCoded d p →
-      index_in (whole_bounds d.cols d.rows) p < d.rows * d.cols
-  cell_below p is = index_in_below (whole_bounds d.cols d.rows) p (in_grid p is)
+      index_in (grid_of d) p < d.rows * d.cols
+  cell_below p is = index_in_below (grid_of d) p (in_grid p is)
 
   pub cell_back : (p : Place) → IsCoded d p →
-      place_in (whole_bounds d.cols d.rows) (index_in (whole_bounds d.cols d.rows) p) ≡ p
-  cell_back p is = place_in-index_in (whole_bounds d.cols d.rows) p (in_grid p is)
+      place_in (grid_of d) (index_in (grid_of d) p) ≡ p
+  cell_back p is = place_in-index_in (grid_of d) p (in_grid p is)
 
   path_stop : (c : Place) → IsCoded d c → (k : ℕ) × (k < moves d) × StopsAt d c k
   path_stop c is =
       let inside : (k : ℕ) → ((follow d c k).row < d.rows) × ((follow d c k).col < d.cols) =
-      λ k. coded_inside d (follow d c k) (coded_along d s.ends c is k) in
+      λ k. coded_inside (coded_along s.ends is k) in
       let same : (a b : ℕ) → index_of d.cols (follow d c a) ≡ index_of d.cols (follow d c b) →
       follow d c a ≡ follow d c b =
       λ a b. index_injective d.cols (follow d c a) (follow d c b) (inside a).1 (inside b).1 in
@@ -81,9 +81,9 @@ module _ (d : Directed) (s : IsEnding d) where
       (ap (index_of d.cols) (outlet_stays d (last_of d c) (s.ends c is.code is.is))) in
       (r.0, r.1, same (suc r.0) r.0 r.2)
 
-  pub reached_early : (c p : Place) → IsCoded d c → (k : ℕ) → follow d c k ≡ p →
+  pub reached_early : {c p : Place} → IsCoded d c → (k : ℕ) → follow d c k ≡ p →
       (m : ℕ) × (m < moves d) × (m ≤ k) × (follow d c m ≡ p)
-  reached_early c p is k way = elim (cases_lt k (moves d)) [
+  reached_early {c} is k way = elim (cases_lt k (moves d)) [
     | inl l ↦ (k, l, omega arith, way)
     | inr far ↦ (let r = path_stop c is in (
       r.0,
@@ -103,10 +103,10 @@ module _ (d : Directed) (s : IsEnding d) where
             ∙ sym (follow_stays d c r.0 k far r.2)))
       ]
 
-  pub drains_at : (c p : Place) → IsCoded d c → (k : ℕ) → follow d c k ≡ p →
+  pub drains_at : {c p : Place} → IsCoded d c → (k : ℕ) → follow d c k ≡ p →
       drains_through d p c ≡ true
-  drains_at c p is k way =
-      let m = reached_early c p is k way in
+  drains_at {c} {p} is k way =
+      let m = reached_early is k way in
       any_in_range (λ k. is_place p (follow d c k)) (moves d) m.0 m.1
       (is_place_from p (follow d c m.0) (sym m.3))
 
@@ -148,28 +148,28 @@ module _ (d : Directed) (s : IsEnding d) where
       where
         last : (l : ℕ) → l ≤ suc k → (l ≤ k → In (follow d q l)) → In (follow d q l)
         last l le way = elim (cases_eq l (suc k)) [
-          | inl e ↦ subst (λ (n : ℕ). In (follow d q n)) (sym e) here
+          | inl e ↦ rw e here
           | inr ne ↦ way (omega arith)
         ]
 
-    module _ (q : Place) (is : IsCoded d q) where
+    module _ {q : Place} (is : IsCoded d q) where
       -- A path that has left the region returns to no place of the region where it was before.
       no_return : (f k a m : ℕ) → ((l : ℕ) → f ≤ l → l ≤ k → In (follow d q l)) → f ≤ k → f ≤ a →
           (In (follow d q a) → ⊥) → a < m → follow d q k ≡ follow d q m → ⊥
       no_return f k a m way some from out lt same = elim (cases_lt k a) [
         | inr near ↦ out (way a from near)
-        | inl far ↦ out (subst In (sym (follow_stays d q k a (omega arith)
-            (again_stops q is k m (omega arith) same))) (way k some (omega arith)))
+        | inl far ↦ out (rw (follow_stays d q k a (omega arith)
+            (again_stops q is k m (omega arith) same)) (way k some (omega arith)))
       ]
 
-      pub never_enters : (k m : ℕ) → follow d q k ≡ follow d q m →
+      pub never_enters : (k : ℕ) {m : ℕ} → follow d q k ≡ follow d q m →
           ((l : ℕ) → l ≤ k → In (follow d q l)) → EntersRegion In q m → ⊥
-      never_enters k m same way c = no_return 0 k c.from m (λ l _ le.
+      never_enters k {m} same way c = no_return 0 k c.from m (λ l _ le.
           way l le) (omega arith) (omega arith) c.outside c.before same
 
-      pub enters_from_one : (k m : ℕ) → follow d q k ≡ follow d q m →
+      pub enters_from_one : {k m : ℕ} → follow d q k ≡ follow d q m →
           (a : EntersRegion In q k) (b : EntersRegion In q m) → a.from ≡ b.from
-      enters_from_one k m same a b = elim (cases_order a.from b.from) [
+      enters_from_one {k} {m} same a b = elim (cases_order a.from b.from) [
         | inl e ↦ e
         | inr r ↦ elim r [
           | inl l ↦ absurd (no_return (suc a.from) k b.from m a.inside
@@ -194,7 +194,7 @@ abbrev pub enters : Directed → Cutting → Place → Place → ℕ → Bool
 enters d t p q k = is_place p (follow d q (k + 1))
     && not (eqb (tile_of_place t (follow d q k)) (tile_of_place t p))
 
-module _ (d : Directed) (s : IsEnding d) (t : Cutting) (p q : Place) where
+module _ {d : Directed} (s : IsEnding d) (t : Cutting) (p q : Place) where
   one_on : (k : ℕ) → follow d q (k + 1) ≡ follow d q (suc k)
   one_on k = let e : k + 1 ≡ suc k = omega arith in ap (follow d q) e
 
@@ -212,6 +212,6 @@ module _ (d : Directed) (s : IsEnding d) (t : Cutting) (p q : Place) where
       ≢ tile_of_place t p → list_any (enters d t p q) (range_with_len 0 (moves d - 1)) ≡ true
   enters_at is k leads apart =
       any_in_range (enters d t p q) (moves d - 1) k
-      (early_move d s q is k (λ e. apart (ap (tile_of_place t) (sym e ∙ leads))))
+      (early_move s q is k (λ e. apart (ap (tile_of_place t) (sym e ∙ leads))))
       (and_from _ _ (is_place_from p (follow d q (k + 1)) (sym leads ∙ sym (one_on k)))
       (not_from_false _ (ne_eqb _ _ apart)))

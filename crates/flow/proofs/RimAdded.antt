@@ -17,7 +17,7 @@ use Rattle.flow.specs.RimGraph.{side_cell}
 use Rattle.flow.specs.Inflows.{adds, adds_at, inflow_by}
 use Rattle.tile_jobs.proofs.Sums.{sum_more, sum_below-part, one_term}
 use Rattle.flow.proofs.Sending.{added_at}
-use Rattle.flow.proofs.RimCells.{cell_from, cell_at}
+use Rattle.flow.proofs.RimCells.{cell_from, cell_at, own_bounds}
 use Rattle.tiles.proofs.RimNumbered.{side_below, no_wider, no_higher}
 
 -- If the weight of q grows by `amount`, that of p grows by `adds_at (Some q) amount p`: `amount` if
@@ -45,37 +45,37 @@ adds_off None amount p other = refl
 adds_off (Some q) amount p other =
     cond-false {A = ℕ} _ amount 0 (false_from_ne_true _ (λ y. other q refl (place_is _ _ y)))
 
-module _ (t : Cutting) (h : IsCutting t) (listed : List ℕ) where
+module _ {t : Cutting} (h : IsCutting t) (listed : List ℕ) where
   -- No side number but that of p adds to the weight of p.
   only_own : (p : Place) → IsWithin t p → (side : ℕ) → side ≢ side_number (bounds_of t 0)
-      (bounds_of t (tile_of_place t p)) p → adds t listed (tile_of_place t p) side p ≡ 0
+      (own_bounds t p) p → adds t listed (tile_of_place t p) side p ≡ 0
   only_own p w side ne =
-      adds_off (side_cell (bounds_of t 0) (bounds_of t (tile_of_place t p)) side) _ p
-      (λ q is e. ne (sym (cell_from (bounds_of t 0) (bounds_of t (tile_of_place t p))
-      side q is).number ∙ ap (side_number (bounds_of t 0) (bounds_of t (tile_of_place t p))) e))
+      adds_off (side_cell (bounds_of t 0) (own_bounds t p) side) _ p
+      (λ q is e. ne (sym (cell_from (bounds_of t 0) (own_bounds t p)
+      side q is).number ∙ ap (side_number (bounds_of t 0) (own_bounds t p)) e))
 
   own : (p : Place) → IsWithin t p → adds t listed (tile_of_place t p)
-      (side_number (bounds_of t 0) (bounds_of t (tile_of_place t p)) p) p ≡ inflow_by t listed p
+      (side_number (bounds_of t 0) (own_bounds t p) p) p ≡ inflow_by t listed p
   own p w =
       let amount : ℕ = get_or listed (rim_number t p) 0 in
-      let side : ℕ = side_number (bounds_of t 0) (bounds_of t (tile_of_place t p)) p in
+      let side : ℕ = side_number (bounds_of t 0) (own_bounds t p) p in
       let i = in_bounds t (tile_of_place t p) p h (w, refl) in
-      let below = side_below (bounds_of t 0) (bounds_of t (tile_of_place t p)) p
+      let below = side_below (bounds_of t 0) (own_bounds t p) p
       (no_wider t h (tile_of_place t p)) (no_higher t h (tile_of_place t p)) i in
       let place : rim_place t (rim_number t p)
-      ≡ side_place (bounds_of t 0) (bounds_of t (tile_of_place t p)) side =
+      ≡ side_place (bounds_of t 0) (own_bounds t p) side =
       ap (λ n. side_place (bounds_of t 0) (bounds_of t n) (rim_number t p % stride (bounds_of t 0)))
       (div-mul-add (tile_of_place t p) (stride (bounds_of t 0)) side below)
-      ∙ ap (λ n. side_place (bounds_of t 0) (bounds_of t (tile_of_place t p)) n)
+      ∙ ap (λ n. side_place (bounds_of t 0) (own_bounds t p) n)
       (mod-mul-add (tile_of_place t p) (stride (bounds_of t 0)) side below) in
       elim (cases_Bool (is_place (rim_place t (rim_number t p)) p)) [
         | inl y ↦ ap (λ (o : Option Place). adds_at o amount p) (cell_at (bounds_of t 0)
-            (bounds_of t (tile_of_place t p)) p i (sym place ∙ place_is _ _ y))
+            (own_bounds t p) p i (sym place ∙ place_is _ _ y))
             ∙ own_adds p amount ∙ sym (cond-true {A = ℕ} _ amount 0 y)
         | inr f ↦
-            adds_off (side_cell (bounds_of t 0) (bounds_of t (tile_of_place t p)) side) amount p
+            adds_off (side_cell (bounds_of t 0) (own_bounds t p) side) amount p
             (λ q is e. false≢true (sym f ∙ is_place_from _ _ (place
-            ∙ (cell_from (bounds_of t 0) (bounds_of t (tile_of_place t p)) side q is).place ∙ e)))
+            ∙ (cell_from (bounds_of t 0) (own_bounds t p) side q is).place ∙ e)))
             ∙ sym (cond-false {A = ℕ} _ amount 0 f)
       ]
 
@@ -84,8 +84,8 @@ module _ (t : Cutting) (h : IsCutting t) (listed : List ℕ) where
   all_adds p w =
       let i = in_bounds t (tile_of_place t p) p h (w, refl) in
       one_term (λ k. adds t listed (tile_of_place t p) k p) (stride (bounds_of t 0))
-      (side_number (bounds_of t 0) (bounds_of t (tile_of_place t p)) p)
-      (side_below (bounds_of t 0) (bounds_of t (tile_of_place t p)) p
+      (side_number (bounds_of t 0) (own_bounds t p) p)
+      (side_below (bounds_of t 0) (own_bounds t p) p
       (no_wider t h (tile_of_place t p)) (no_higher t h (tile_of_place t p)) i)
       (λ j l ne. only_own p w j ne)
       ∙ own p w
@@ -105,7 +105,7 @@ module _ (t : Cutting) (h : IsCutting t) (listed : List ℕ) where
     sum_below-part (λ k. adds t listed tile k p) m (stride (bounds_of t 0)) le,
   )
 
-module _ (t : Cutting) (h : IsCutting t) (listed : List ℕ) (tile : ℕ) (below : tile < tile_count t)
+module _ {t : Cutting} (h : IsCutting t) (listed : List ℕ) (tile : ℕ) (below : tile < tile_count t)
     (old : List ℕ) where
   -- The weights after adding the inflows of the side numbers below `side`.
   abbrev pub AreAdded : List ℕ → ℕ → Type 0
@@ -115,60 +115,57 @@ module _ (t : Cutting) (h : IsCutting t) (listed : List ℕ) (tile : ℕ) (below
 
   -- With the cell of `side` and the amount listed for `side`, `adds_at` gives what `adds` does: the
   -- inflow that `side` adds at p.
-  one_added : (b : Bounds) → b ≡ bounds_of t tile → (side : ℕ) (cell : Option Place) (amount : ℕ) →
+  one_added : {b : Bounds} → b ≡ bounds_of t tile → (side : ℕ) {cell : Option Place} {amount : ℕ} →
       cell ≡ side_cell (bounds_of t 0) b side →
       amount ≡ get_or listed (tile * stride (bounds_of t 0) + side) 0 → (p : Place) →
       adds_at cell amount p ≡ adds t listed tile side p
-  one_added b e side cell amount is much p =
+  one_added e side {amount = amount} is much p =
       ap (λ (o : Option Place). adds_at o amount p) (is
       ∙ ap (λ (z : Bounds). side_cell (bounds_of t 0) z side) e)
       ∙ ap (λ n. adds_at (side_cell (bounds_of t 0) (bounds_of t tile) side) n p) much
 
-  pub adds_fit : (b : Bounds) → b ≡ bounds_of t tile → (weights : List ℕ) (side : ℕ)
-      (cell : Option Place) (amount : ℕ) → cell ≡ side_cell (bounds_of t 0) b side →
+  pub adds_fit : {b : Bounds} → b ≡ bounds_of t tile → (weights : List ℕ) (side : ℕ)
+      {cell : Option Place} {amount : ℕ} → cell ≡ side_cell (bounds_of t 0) b side →
       amount ≡ get_or listed (tile * stride (bounds_of t 0) + side) 0 →
       side < stride (bounds_of t 0) → AreAdded weights side →
       ((p : Place) → IsInBounds (bounds_of t tile) p →
       get_or old (index_in (bounds_of t tile) p) 0 + inflow_by t listed p < 2 ^ 32) →
       (p : Place) → IsInBounds b p →
       get_or weights (index_in b p) 0 + adds_at cell amount p < 2 ^ 32
-  adds_fit b e weights side cell amount is much few so_far fits =
-      subst (λ (z : Bounds). (p : Place) → IsInBounds z p →
-      get_or weights (index_in z p) 0 + adds_at cell amount p < 2 ^ 32) (sym e)
-      (λ p i. omega (
+  adds_fit {b} e weights side {cell} {amount} is much few so_far fits =
+      rw e (λ p i. omega (
         arith,
         so_far p i,
         fits p i,
         sum_more (λ k. adds t listed tile k p) side,
-        adds_part t h listed tile p (in_tile t tile p h below i) (side + 1) (omega arith),
-        one_added b e side cell amount is much p,
+        adds_part h listed tile p (in_tile t tile p h below i) (side + 1) (omega arith),
+        one_added e side is much p,
       ))
 
-  pub adds_more : (b : Bounds) → b ≡ bounds_of t tile → (weights new : List ℕ) (side : ℕ)
-      (cell : Option Place) (amount : ℕ) → cell ≡ side_cell (bounds_of t 0) b side →
+  pub adds_more : {b : Bounds} → b ≡ bounds_of t tile → (weights new : List ℕ) (side : ℕ)
+      {cell : Option Place} {amount : ℕ} → cell ≡ side_cell (bounds_of t 0) b side →
       amount ≡ get_or listed (tile * stride (bounds_of t 0) + side) 0 → AreAdded weights side →
       ((p : Place) → IsInBounds b p → get_or new (index_in b p) 0 ≡ get_or weights (index_in b p) 0
       + adds_at cell amount p) → AreAdded new (side + 1)
-  adds_more b e weights new side cell amount is much so_far each p i =
+  adds_more {b} e weights new side {cell} {amount} is much so_far each p i =
       let one : get_or new (index_in (bounds_of t tile) p) 0
       ≡ get_or weights (index_in (bounds_of t tile) p) 0 + adds_at cell amount p =
-      subst (λ (z : Bounds). (p : Place) → IsInBounds z p → get_or new (index_in z p) 0
-      ≡ get_or weights (index_in z p) 0 + adds_at cell amount p) e each p i in
+      rw e at each p i in
       omega (
         arith,
         one,
         so_far p i,
         sum_more (λ k. adds t listed tile k p) side,
-        one_added b e side cell amount is much p,
+        one_added e side is much p,
       )
 
-  pub adds_done : (weights : List ℕ) (side : ℕ) → side ≡ stride (bounds_of t 0) →
+  pub adds_done : (weights : List ℕ) {side : ℕ} → side ≡ stride (bounds_of t 0) →
       AreAdded weights side →
       (p : Place) → IsInBounds (bounds_of t tile) p → get_or weights (index_in
       (bounds_of t tile) p) 0 ≡ get_or old (index_in (bounds_of t tile) p) 0 + inflow_by t listed p
-  adds_done weights side all so_far p i = omega (
+  adds_done weights all so_far p i = omega (
     arith,
     so_far p i,
     ap (sum_below (λ k. adds t listed tile k p)) all,
-    adds_sum t h listed tile p (in_tile t tile p h below i),
+    adds_sum h listed tile p (in_tile t tile p h below i),
   )

@@ -4,10 +4,14 @@ use Rattle.std.proofs.lemmas.Bool.{cases_Bool, and_from, and_parts, eq-eqb, eqb-
 use Rattle.std.proofs.lemmas.Option.{none-some, same_Some}
 use Rattle.terrain.specs.declared.place.Place.{Place}
 use Rattle.tiles.specs.declared.bounds.Bounds.{Bounds}
-use Rattle.tiles.specs.Cutting.{Cutting, IsInTile, IsInBounds, bounds_of, is_in_bounds}
+use Rattle.tiles.specs.Cutting.{Cutting, IsInTile, IsInBounds, bounds_of, is_in_bounds, tile_of_place}
 use Rattle.tiles.specs.RimNumbers.{stride, side_number, side_place, rim_number}
 use Rattle.tiles.proofs.Cut.{in_bounds_parts, in_bounds_from}
 use Rattle.flow.specs.RimGraph.{side_cell}
+
+-- The bounds of the tile of p.
+abbrev pub own_bounds : Cutting → Place → Bounds
+own_bounds t p = bounds_of t (tile_of_place t p)
 
 module _ (l b : Bounds) where
   -- p is the cell with this side number.
@@ -24,8 +28,7 @@ module _ (l b : Bounds) where
             let place : side_place l b side ≡ p =
             same_Some _ _ (sym (cond-true {A = Option Place} _ _ None y) ∙ e) in
             record {
-              inside = subst (λ (z : Place).
-                  IsInBounds b z) place (in_bounds_parts b (side_place l b side) w.0);
+              inside = rw place at (in_bounds_parts b (side_place l b side) w.0);
               number = ap (side_number l b) (sym place) ∙ eqb-true _ _ w.1;
               place = place;
             })
@@ -41,9 +44,9 @@ module _ (l b : Bounds) where
       ∙ and_from _ _ (in_bounds_from b p i) (eq-eqb _ _ refl))
       ∙ ap Some back
 
-pub number_from_side : (t : Cutting) (tile side : ℕ) (p : Place) → IsInTile t tile p →
+pub number_from_side : (t : Cutting) (tile : ℕ) {side : ℕ} (p : Place) → IsInTile t tile p →
     side_number (bounds_of t 0) (bounds_of t tile) p ≡ side →
     rim_number t p ≡ tile * stride (bounds_of t 0) + side
-number_from_side t tile side p i e =
+number_from_side t tile p i e =
     ap (λ n. n * stride (bounds_of t 0) + side_number (bounds_of t 0) (bounds_of t n) p) i.1
     ∙ ap (λ n. tile * stride (bounds_of t 0) + n) e

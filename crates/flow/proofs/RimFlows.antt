@@ -26,7 +26,7 @@ use Rattle.flow.proofs.Ending.{IsStop, streams_from, node_after-first, node_afte
 use Rattle.terrain.proofs.Options.{cases_option}
 use Rattle.flow.proofs.Coded.{IsCoded, cases_coded, coded_along, coded_inside, coded_from_some, none_stays, outlet_stays, follow_stays, follow_more, follow_first, StopsAt, stops_sooner, cycle_stops}
 use Rattle.tiles.proofs.RimNumbered.{IsSide, side_back, side_below, no_wider, no_higher, number_below, number_back}
-use Rattle.flow.proofs.RimCells.{IsCellOf, cell_from, cell_at, number_from_side}
+use Rattle.flow.proofs.RimCells.{IsCellOf, cell_from, cell_at, number_from_side, own_bounds}
 use Rattle.std.proofs.lemmas.Nat.{div-mul-add, mod-mul-add, div-add-mod'}
 
 pub outlet_from_code : (o : Option ℕ) → is_outlet_code o ≡ true → o ≡ Some 0
@@ -59,15 +59,15 @@ outlet_unlisted t flows listed p f n = cond-false {A =
     Option Place} _ (Some p) (cond {A = Option Place} (is_place (rim_place t (rim_number t p)) p)
     (get_or listed (rim_number t p) None) None) f ∙ cond-false {A = Option Place} _ _ _ n
 
-pub targets_size : (t : Cutting) (flows : List Flow) (targets : List (Option Place)) →
+pub targets_size : (t : Cutting) (flows : List Flow) {targets : List (Option Place)} →
     targets ≡ targets_by t flows → length targets ≡ rim_number_count t
-targets_size t flows targets made = ap length made
+targets_size t flows made = ap length made
     ∙ length-map-range_with_len (target_by t flows) 0 (rim_number_count t)
 
-pub target_listed : (t : Cutting) (flows : List Flow) (targets : List (Option Place)) →
+pub target_listed : (t : Cutting) (flows : List Flow) {targets : List (Option Place)} →
     targets ≡ targets_by t flows → (i : ℕ) → i < rim_number_count t →
     get_or targets i None ≡ target_by t flows i
-target_listed t flows targets made i h =
+target_listed t flows made i h =
     ap (λ l. get_or l i None) made
     ∙ get_or-map-range_with_len (target_by t flows) 0 (rim_number_count t) i i None h (omega arith)
 
@@ -83,18 +83,18 @@ target_in_tile t flows tile side f below is =
     (mod-mul-add tile (stride largest) side below)
     ∙ ap (λ (o : Option Flow). option_and_then (λ (g : Flow). target_in largest g side) o) is
 
-module _ (d : Directed) (t : Cutting) (flows : List Flow) (s : AreFlowsOf d t flows) where
-  pub within_of : (p : Place) → IsCoded d p → IsWithin t p
-  within_of p is = let z = coded_inside d p is in
+module _ {d : Directed} {t : Cutting} {flows : List Flow} (s : AreFlowsOf d t flows) where
+  pub within_of : {p : Place} → IsCoded d p → IsWithin t p
+  within_of {p} is = let z = coded_inside is in
       (omega (arith, z.0, s.of_tiles.size.1), omega (arith, z.1, s.of_tiles.size.0))
 
-  stops_of : (p : Place) → IsCoded d p → StopsAt d p (moves d)
-  stops_of p is = outlet_stays d (last_of d p) (s.ends p is.code is.is)
+  stops_of : {p : Place} → IsCoded d p → StopsAt d p (moves d)
+  stops_of {p} is = outlet_stays d (last_of d p) (s.ends p is.code is.is)
 
-  pub last_same : (p e : Place) (k : ℕ) → IsCoded d p → follow d p k ≡ e → last_of d e ≡ last_of d p
-  last_same p e k is way =
+  pub last_same : {p e : Place} (k : ℕ) → IsCoded d p → follow d p k ≡ e → last_of d e ≡ last_of d p
+  last_same {p} k is way =
       ap (λ (q : Place). follow d q (moves d)) (sym way) ∙ follow_more d p k (moves d)
-      ∙ follow_stays d p (moves d) (k + moves d) (omega arith) (stops_of p is)
+      ∙ follow_stays d p (moves d) (k + moves d) (omega arith) (stops_of is)
 
   last_here : (p : Place) → IsOutlet d p → last_of d p ≡ p
   last_here p out = follow_stays d p 0 (moves d) (omega arith) (outlet_stays d p out)
@@ -117,9 +117,9 @@ module _ (d : Directed) (t : Cutting) (flows : List Flow) (s : AreFlowsOf d t fl
       ap (λ (o : Option Flow). option_and_then (λ (x : Flow). entry_in x.bounds x.codes p) o) f.is
       ∙ f.right.same_codes p (w, refl)
 
-  next_here : (tile : ℕ) (f : Flow) (p : Place) → IsTileExits d t tile f → IsInTile t tile p →
+  next_here : {tile : ℕ} {f : Flow} (p : Place) → IsTileExits d t tile f → IsInTile t tile p →
       next_in f p ≡ next d p
-  next_here tile f p right i = ap (λ (o : Option ℕ).
+  next_here p right i = ap (λ (o : Option ℕ).
       unwrap_or (option_and_then (λ code. place_toward code p) o) p) (right.same_codes p i)
 
   -- A data cell whose direction leads into another tile.
@@ -127,14 +127,14 @@ module _ (d : Directed) (t : Cutting) (flows : List Flow) (s : AreFlowsOf d t fl
     pub coded : IsCoded d p
     pub apart : tile_of_place t (next d p) ≢ tile_of_place t p
 
-  on_side : (p : Place) → LeavesTile p → IsSide (bounds_of t (tile_of_place t p)) p
+  on_side : (p : Place) → LeavesTile p → IsSide (own_bounds t p) p
   on_side p c a b e =
-      let w = within_of p c.coded in
+      let w = within_of c.coded in
       let i = in_bounds t (tile_of_place t p) p s.cutting (w, refl) in
       let below = tile_of_place_below t p s.cutting w in
       let touch = next_touches p (code_at d p) in
       elim (cases_eq (p.col + 1)
-      ((bounds_of t (tile_of_place t p)).left + (bounds_of t (tile_of_place t p)).cols)) [
+      ((own_bounds t p).left + (own_bounds t p).cols)) [
         | inl y ↦ y
         | inr ne ↦ absurd (c.apart (in_tile t (tile_of_place t p) (next d p) s.cutting below (
           omega (arith, a, touch.row_up),
@@ -144,38 +144,38 @@ module _ (d : Directed) (t : Cutting) (flows : List Flow) (s : AreFlowsOf d t fl
         )).1)
       ]
 
-  pub back : (p : Place) → LeavesTile p → rim_place t (rim_number t p) ≡ p
-  back p c = number_back t s.cutting p (within_of p c.coded) (on_side p c)
+  pub back : {p : Place} → LeavesTile p → rim_place t (rim_number t p) ≡ p
+  back {p} c = number_back t s.cutting p (within_of c.coded) (on_side p c)
 
   abbrev going_out : Flow → Place → Option Place
   going_out f p =
       cond {A = Option Place} (is_in_bounds f.bounds (next_in f p)) None (Some (next_in f p))
 
   out_of_bounds : (p : Place) → LeavesTile p →
-      is_in_bounds (bounds_of t (tile_of_place t p)) (next d p) ≡ false
+      is_in_bounds (own_bounds t p) (next d p) ≡ false
   out_of_bounds p c =
-      let below = tile_of_place_below t p s.cutting (within_of p c.coded) in
+      let below = tile_of_place_below t p s.cutting (within_of c.coded) in
       false_from_ne_true _ (λ y. c.apart (in_tile t (tile_of_place t p) (next d p) s.cutting below
-      (in_bounds_parts (bounds_of t (tile_of_place t p)) (next d p) y)).1)
+      (in_bounds_parts (own_bounds t p) (next d p) y)).1)
 
-  pub target_on : (p : Place) → LeavesTile p → target_by t flows (rim_number t p) ≡ Some (next d p)
-  target_on p c =
-      let w = within_of p c.coded in
+  pub target_on : {p : Place} → LeavesTile p → target_by t flows (rim_number t p) ≡ Some (next d p)
+  target_on {p} c =
+      let w = within_of c.coded in
       let f = flow_of p w in
       let i = in_bounds t (tile_of_place t p) p s.cutting (w, refl) in
       let wide = no_wider t s.cutting (tile_of_place t p) in
       let high = no_higher t s.cutting (tile_of_place t p) in
-      let side : ℕ = side_number (bounds_of t 0) (bounds_of t (tile_of_place t p)) p in
+      let side : ℕ = side_number (bounds_of t 0) (own_bounds t p) p in
       let cell : side_cell (bounds_of t 0) f.flow.bounds side ≡ Some p =
       ap (λ (b : Bounds). side_cell (bounds_of t 0) b side) f.right.bounds
-      ∙ cell_at (bounds_of t 0) (bounds_of t (tile_of_place t p)) p i
-      (side_back (bounds_of t 0) (bounds_of t (tile_of_place t p)) p wide high i (on_side p c)) in
-      let next_is = next_here (tile_of_place t p) f.flow p f.right (w, refl) in
+      ∙ cell_at (bounds_of t 0) (own_bounds t p) p i
+      (side_back (bounds_of t 0) (own_bounds t p) p wide high i (on_side p c)) in
+      let next_is = next_here p f.right (w, refl) in
       let out : is_in_bounds f.flow.bounds (next_in f.flow p) ≡ false =
       ap (is_in_bounds f.flow.bounds) next_is
       ∙ ap (λ (b : Bounds). is_in_bounds b (next d p)) f.right.bounds ∙ out_of_bounds p c in
       target_in_tile t flows (tile_of_place t p) side f.flow
-      (side_below (bounds_of t 0) (bounds_of t (tile_of_place t p)) p wide high i) f.is
+      (side_below (bounds_of t 0) (own_bounds t p) p wide high i) f.is
       ∙ ap (λ (o : Option Place). option_and_then (going_out f.flow) o) cell
       ∙ cond-false {A = Option Place} _ None _ out
       ∙ ap Some next_is
@@ -191,19 +191,18 @@ module _ (d : Directed) (t : Cutting) (flows : List Flow) (s : AreFlowsOf d t fl
       let out : (IsInBounds (bounds_of t tile) (next d p) → ⊥) =
       λ inside. false≢true (sym f ∙ in_bounds_from _ _ inside) in
       elim (cases_coded d p) [
-        | inl none ↦ absurd (out (subst (λ (q : Place). IsInBounds (bounds_of t tile) q)
-            (sym (none_stays d p none)) (in_bounds t tile p s.cutting i)))
+        | inl none ↦ absurd (out (rw (none_stays d p none) (in_bounds t tile p s.cutting i)))
         | inr is ↦ record {
           coded = is;
           apart = λ same. out (in_bounds t tile (next d p) s.cutting
-              (within_of (next d p) (coded_along d s.ends p is 1), same ∙ i.1));
+              (within_of (coded_along s.ends is 1), same ∙ i.1));
         }
       ]
 
-  target_of_cell : (i : ℕ) (p q : Place) → rim_place t i ≡ p → rim_number t p ≡ i → LeavesTile p →
+  target_of_cell : {i : ℕ} {p q : Place} → rim_place t i ≡ p → rim_number t p ≡ i → LeavesTile p →
       q ≡ next d p → IsTarget i q
-  target_of_cell i p q place number crosses is = record {
-    crosses = subst (λ (z : Place). LeavesTile z) (sym place) crosses;
+  target_of_cell place number crosses is = record {
+    crosses = rw place crosses;
     number = ap (rim_number t) place ∙ number;
     is = is ∙ ap (next d) (sym place);
   }
@@ -215,11 +214,11 @@ module _ (d : Directed) (t : Cutting) (flows : List Flow) (s : AreFlowsOf d t fl
       (i % stride (bounds_of t 0)) p → going_out f p ≡ Some q → IsTarget i q
   target_from_cell i f p q right below cell goes =
       let here = in_tile t (i / stride (bounds_of t 0)) p s.cutting below cell.inside in
-      let next_is = next_here (i / stride (bounds_of t 0)) f p right here in
+      let next_is = next_here p right here in
       elim (cases_Bool (is_in_bounds f.bounds (next_in f p))) [
         | inl y ↦ absurd (none-some q (sym (cond-true {A = Option Place} _ None _ y) ∙ goes))
-        | inr out ↦ target_of_cell i p q cell.place
-            (number_from_side t (i / stride (bounds_of t 0)) (i % stride (bounds_of t 0))
+        | inr out ↦ target_of_cell cell.place
+            (number_from_side t (i / stride (bounds_of t 0))
             p here cell.number ∙ div-add-mod' i (stride (bounds_of t 0)))
             (crosses_from (i / stride (bounds_of t 0)) p here
             (sym (ap (is_in_bounds f.bounds) next_is
@@ -253,15 +252,14 @@ module _ (d : Directed) (t : Cutting) (flows : List Flow) (s : AreFlowsOf d t fl
       IsCoded d q × IsWithin t q
   target_within i q e =
       let x = target_from i q e in
-      let is = subst (λ (z : Place).
-      IsCoded d z) (sym x.is) (coded_along d s.ends (rim_place t i) x.crosses.coded 1) in
-      (is, within_of q is)
+      let is = rw (← x.is) at (coded_along s.ends x.crosses.coded 1) in
+      (is, within_of is)
 
   pub targets_within : (i : ℕ) → IfSome (target_by t flows i) (IsWithin t)
   targets_within i = elim (cases_option (target_by t flows i)) [
-    | inl none ↦ subst (λ (o : Option Place). IfSome o (IsWithin t)) (sym none) tt
+    | inl none ↦ rw none tt
     | inr q ↦
-        subst (λ (o : Option Place). IfSome o (IsWithin t)) (sym q.1) (target_within i q.0 q.1).1
+        rw q.1 (target_within i q.0 q.1).1
   ]
 
   -- e is the exit of q, by the flows and by the map of directions.
@@ -278,7 +276,7 @@ module _ (d : Directed) (t : Cutting) (flows : List Flow) (s : AreFlowsOf d t fl
       let there : tile_of_place t (follow d q x.0) ≡ tile_of_place t q =
       eqb-true _ _ (every_in_range (λ j. eqb (tile_of_place t (follow d q j)) (tile_of_place t q))
       (x.0 + 1) x.2 x.0 at) in (
-        subst (λ (z : Place). IsCoded d z) x.3 (coded_along d s.ends q is x.0),
+        rw x.3 at (coded_along s.ends is x.0),
         sym (ap (tile_of_place t) x.3) ∙ there,
       )
 
@@ -293,14 +291,14 @@ module _ (d : Directed) (t : Cutting) (flows : List Flow) (s : AreFlowsOf d t fl
     ]
   ]
 
-  pub exit_here : (q : Place) → IsCoded d q → (e : Place) × HasExit q e
-  exit_here q is =
-      let w = within_of q is in
+  pub exit_here : {q : Place} → IsCoded d q → (e : Place) × HasExit q e
+  exit_here {q} is =
+      let w = within_of is in
       let f = flow_of q w in
       let m = MatchOption-at_some _ _ is.code is.is (f.right.each q (w, refl)) in
       let x = exit_in_tile q m.0 is m.2 in
       let same : entry_in f.flow.bounds f.flow.codes m.0 ≡ code_at d m.0 =
-      f.right.same_codes m.0 (within_of m.0 x.0, x.1) in (
+      f.right.same_codes m.0 (within_of x.0, x.1) in (
         m.0,
         record {
           exit = ap (λ (o : Option Flow). option_and_then (λ (z : Flow). exit_in z q) o) f.is ∙ m.1;
@@ -313,19 +311,18 @@ module _ (d : Directed) (t : Cutting) (flows : List Flow) (s : AreFlowsOf d t fl
         },
       )
 
-  pub not_outlet : (e : Place) → LeavesTile e → is_outlet_code (code_at d e) ≡ false
-  not_outlet e c = false_from_ne_true _ (λ y.
+  pub not_outlet : {e : Place} → LeavesTile e → is_outlet_code (code_at d e) ≡ false
+  not_outlet {e} c = false_from_ne_true _ (λ y.
       c.apart (ap (tile_of_place t) (outlet_stays d e (outlet_from_code (code_at d e) y))))
 
   pub next_exit_within : (q e : Place) → IsWithin t q → next_exit_by t flows q ≡ Some e →
       IsWithin t e
   next_exit_within q e w x = elim (cases_coded d q) [
-    | inr is ↦ (let y = exit_here q is in elim (cases_Bool (is_outlet_code (code_at d y.0))) [
+    | inr is ↦ (let y = exit_here is in elim (cases_Bool (is_outlet_code (code_at d y.0))) [
       | inl out ↦ absurd (none-some e (sym (cond-true {A = Option Place} _ None (Some y.0) out)
           ∙ sym y.1.out ∙ x))
-      | inr goes ↦ subst (λ (z : Place).
-          IsWithin t z) (same_Some y.0 e (sym (cond-false {A = Option Place} _ None (Some y.0) goes)
-          ∙ sym y.1.out ∙ x)) (within_of y.0 (exit_in_tile q y.0 is y.1.leads).0)
+      | inr goes ↦ rw (same_Some y.0 e (sym (cond-false {A = Option Place} _ None (Some y.0) goes)
+          ∙ sym y.1.out ∙ x)) at (within_of (exit_in_tile q y.0 is y.1.leads).0)
     ])
     | inl none ↦ (let f = flow_of q w in
         let m = MatchOption-at_none _ _ none (f.right.each q (w, refl)) in
@@ -361,7 +358,7 @@ module _ (d : Directed) (t : Cutting) (flows : List Flow) (s : AreFlowsOf d t fl
   next_or_last_exit i q e =
       let x = target_from i q e in
       let is = (target_within i q e).0 in
-      let y = exit_here q is in
+      let y = exit_here is in
       let leads = y.1.leads in
       let way : follow d (rim_place t i) (suc leads.0) ≡ y.0 = sym (ap (λ (r : Place).
       follow d r leads.0) x.is ∙ follow_first d (rim_place t i) leads.0) ∙ leads.3 in
@@ -386,22 +383,22 @@ module _ (d : Directed) (t : Cutting) (flows : List Flow) (s : AreFlowsOf d t fl
               still = subst (λ (z : Place). stays d t z leads.0 ≡ true) x.is leads.2;
               way = way;
               link = link ∙ ap (number_or t i) (cond-false {A = Option Place} _ None (Some y.0)
-                  (not_outlet y.0 c));
+                  (not_outlet c));
             }))
       ]
 
   pub untargeted : (i : ℕ) → target_by t flows i ≡ None → rim_link t flows i ≡ i
   untargeted i e = ap (link_by i) e
 
-  pub to_below : (p : Place) → LeavesTile p → rim_number t p < rim_number_count t
-  to_below p c = number_below t s.cutting p (within_of p c.coded)
+  pub to_below : {p : Place} → LeavesTile p → rim_number t p < rim_number_count t
+  to_below {p} c = number_below t s.cutting p (within_of c.coded)
 
-  no_cycle : (n : ℕ) (p e : Place) (k : ℕ) → follow d p (suc k) ≡ e → e ≡ p → LeavesTile p →
+  no_cycle : (n : ℕ) {p e : Place} (k : ℕ) → follow d p (suc k) ≡ e → e ≡ p → LeavesTile p →
       StopsAt d p n → ⊥
-  no_cycle n p e k way same c stop =
-      c.apart (ap (tile_of_place t) (cycle_stops d n p k (way ∙ same) stop))
+  no_cycle n {p} k way same c stop =
+      c.apart (ap (tile_of_place t) (cycle_stops d n k (way ∙ same) stop))
 
-  module _ (links : List ℕ) (made : links ≡ rim_links_by t flows) where
+  module _ {links : List ℕ} (made : links ≡ rim_links_by t flows) where
     pub links_size : length links ≡ rim_number_count t
     links_size = ap length made ∙ length-map-range_with_len (rim_link t flows) 0
         (rim_number_count t)
@@ -414,7 +411,7 @@ module _ (d : Directed) (t : Cutting) (flows : List Flow) (s : AreFlowsOf d t fl
     links_in i h = elim (cases_option (target_by t flows i)) [
       | inl none ↦ omega (arith, link_at i h, untargeted i none)
       | inr q ↦ elim (next_or_last_exit i q.0 q.1) [
-        | inl g ↦ omega (arith, link_at i h, g.link, to_below g.to g.crosses)
+        | inl g ↦ omega (arith, link_at i h, g.link, to_below g.crosses)
         | inr e ↦ omega (arith, link_at i h, e.link)
       ]
     ]
@@ -429,9 +426,9 @@ module _ (d : Directed) (t : Cutting) (flows : List Flow) (s : AreFlowsOf d t fl
       | inl none ↦ (0, link_at i h ∙ untargeted i none)
       | inr q ↦ elim (next_or_last_exit i q.0 q.1) [
         | inr e ↦ (0, link_at i h ∙ e.link)
-        | inl g ↦ (let there = subst (λ (z : Place). StopsAt d z n) (sym (back g.to g.crosses))
+        | inl g ↦ (let there = subst (λ (z : Place). StopsAt d z n) (sym (back g.crosses))
             (stops_sooner d (rim_place t i) g.to g.steps n g.way (stop q.0 q.1)) in
-            let r = stop_within n (rim_number t g.to) (to_below g.to g.crosses) (λ z e. there) in
+            let r = stop_within n (rim_number t g.to) (to_below g.crosses) (λ z e. there) in
             let same : node_after links (rim_number t g.to) r.0 ≡ node_after links i (suc r.0) =
             ap (λ j. node_after links j r.0) (sym (link_at i h ∙ g.link))
             ∙ node_after-first links i r.0 in
@@ -443,7 +440,7 @@ module _ (d : Directed) (t : Cutting) (flows : List Flow) (s : AreFlowsOf d t fl
     rim_streams = streams_from links (λ i h.
         omega (arith, links_in i (omega (arith, h, links_size)), links_size))
         (λ i h. stop_within (moves d) i (omega (arith, h, links_size))
-        (λ q e. stops_of (rim_place t i) (target_from i q e).crosses.coded))
+        (λ q e. stops_of (target_from i q e).crosses.coded))
 
     -- Rim number j has a target, and the flow paths of its cell and of the cell of i end at one
     -- outlet.
@@ -457,12 +454,12 @@ module _ (d : Directed) (t : Cutting) (flows : List Flow) (s : AreFlowsOf d t fl
     step_on i j h o =
         let c = (target_from j o.entry o.target).crosses in
         elim (next_or_last_exit j o.entry o.target) [
-          | inr e ↦ subst (λ (n : ℕ). SharesOutlet i n) (sym (link_at j h ∙ e.link)) o
-          | inl g ↦ subst (λ (n : ℕ). SharesOutlet i n) (sym (link_at j h ∙ g.link)) (record {
+          | inr e ↦ rw (link_at j h ∙ e.link) o
+          | inl g ↦ rw (link_at j h ∙ g.link) (record {
             entry = next d g.to;
-            target = target_on g.to g.crosses;
-            last = ap (last_of d) (back g.to g.crosses)
-                ∙ last_same (rim_place t j) g.to (suc g.steps) c.coded g.way ∙ o.last;
+            target = target_on g.crosses;
+            last = ap (last_of d) (back g.crosses)
+                ∙ last_same (suc g.steps) c.coded g.way ∙ o.last;
           })
         ]
 
@@ -475,7 +472,7 @@ module _ (d : Directed) (t : Cutting) (flows : List Flow) (s : AreFlowsOf d t fl
         (arith, node_after-inside links rim_streams i (omega (arith, h, links_size)) k, links_size))
         (on_way i h q e k)
 
-    module _ (ends : List ℕ) (found : AreEnds links ends) where
+    module _ {ends : List ℕ} (found : AreEnds links ends) where
       -- If water leaves its tile at rim number i, `rim_outlet` finds the water's outlet from the
       -- end of i's path along links.
       pub outlet_of : (i : ℕ) → i < rim_number_count t → (q : Place) →
@@ -495,16 +492,15 @@ module _ (d : Directed) (t : Cutting) (flows : List Flow) (s : AreFlowsOf d t fl
           (found.each i here) in
           elim (next_or_last_exit (end_of links i) o.entry o.target) [
             | inr x ↦ first ∙ x.exit
-                ∙ ap Some (sym (last_here x.to x.outlet) ∙ last_same
-                (rim_place t (end_of links i)) x.to (suc x.steps) c.coded x.way ∙ o.last)
+                ∙ ap Some (sym (last_here x.to x.outlet) ∙ last_same (suc x.steps) c.coded x.way ∙ o.last)
             | inl g ↦ (let same : rim_number t g.to ≡ end_of links i =
                 sym (link_at (end_of links i) below ∙ g.link) ∙ rim_streams.ends i here in
-                absurd (no_cycle (moves d) (rim_place t (end_of links i)) g.to g.steps g.way
-                (sym (back g.to g.crosses) ∙ ap (rim_place t) same) c
-                (stops_of (rim_place t (end_of links i)) c.coded)))
+                absurd (no_cycle (moves d) g.steps g.way
+                (sym (back g.crosses) ∙ ap (rim_place t) same) c
+                (stops_of c.coded)))
           ]
 
-      module _ (outlets : List (Option Place))
+      module _ {outlets : List (Option Place)}
           (listed : outlets ≡ rim_outlets_by t flows ends) where
         listed_at : (i : ℕ) → i < rim_number_count t → get_or outlets i None ≡ rim_outlet t flows
             ends i
@@ -516,16 +512,16 @@ module _ (d : Directed) (t : Cutting) (flows : List Flow) (s : AreFlowsOf d t fl
             outlet_by t flows outlets p ≡ Some (last_of d p)
         exit_outlet p x =
             let is = coded_from_some d p x.0 in
-            let w = within_of p is in
+            let w = within_of is in
             elim x.1 [
               | inl out ↦ cond-true {A = Option Place} _ _ _
                   (ap is_outlet_code (code_here p w ∙ out)) ∙ ap Some (sym (last_here p out))
               | inr apart ↦ (let c : LeavesTile p = record { coded = is; apart = apart } in
                   outlet_listed t flows outlets p (ap is_outlet_code (code_here p w)
-                  ∙ not_outlet p c) (is_place_from _ _ (back p c))
-                  ∙ listed_at (rim_number t p) (to_below p c)
-                  ∙ outlet_of (rim_number t p) (to_below p c) (next d p) (target_on p c)
-                  ∙ ap (λ (q : Place). Some (last_of d q)) (back p c))
+                  ∙ not_outlet c) (is_place_from _ _ (back c))
+                  ∙ listed_at (rim_number t p) (to_below c)
+                  ∙ outlet_of (rim_number t p) (to_below c) (next d p) (target_on c)
+                  ∙ ap (λ (q : Place). Some (last_of d q)) (back c))
             ]
 
         no_exit_outlet : (p : Place) → IsWithin t p → (IsExitCell d t p → ⊥) →

@@ -34,13 +34,13 @@ pub sent-sum : (t : Cutting) (k : ℕ) (o : Option Place) (f : ℕ → ℕ) (n :
 sent-sum t k None f n = sym (sum_below-none (λ c. 0) n (λ c h. refl))
 sent-sum t k (Some q) f n = cond-sum (eqb (rim_number t q) k) f n
 
-module _ (d : Directed) (t : Cutting) (flows : List Flow) (s : AreFlowsOf d t flows)
+module _ {d : Directed} {t : Cutting} {flows : List Flow} (s : AreFlowsOf d t flows)
     (counts : AreTileCounts d t flows) where
-  entry_side : (p : Place) → LeavesTile d t flows s p →
+  entry_side : (p : Place) → LeavesTile s p →
       IsSide (bounds_of t (tile_of_place t (next d p))) (next d p)
   entry_side p c a b e =
-      let coded = coded_along d s.ends p c.coded 1 in
-      let w = within_of d t flows s (next d p) coded in
+      let coded = coded_along s.ends c.coded 1 in
+      let w = within_of s coded in
       let i = in_bounds t (tile_of_place t (next d p)) (next d p) s.cutting (w, refl) in
       let below = tile_of_place_below t (next d p) s.cutting w in
       let touch = next_touches p (code_at d p) in
@@ -55,40 +55,40 @@ module _ (d : Directed) (t : Cutting) (flows : List Flow) (s : AreFlowsOf d t fl
         )).1))
       ]
 
-  pub entry_back : (p : Place) → LeavesTile d t flows s p →
+  pub entry_back : {p : Place} → LeavesTile s p →
       rim_place t (rim_number t (next d p)) ≡ next d p
-  entry_back p c = number_back t s.cutting (next d p)
-      (within_of d t flows s (next d p) (coded_along d s.ends p c.coded 1)) (entry_side p c)
+  entry_back {p} c = number_back t s.cutting (next d p)
+      (within_of s (coded_along s.ends c.coded 1)) (entry_side p c)
 
   -- After `steps` moves, the next move of the flow path of q enters p from another tile.
   record Enters (p q : Place) : Type 0 where
     pub steps : ℕ
-    pub crosses : LeavesTile d t flows s (follow d q steps)
+    pub crosses : LeavesTile s (follow d q steps)
     pub leads : next d (follow d q steps) ≡ p
 
-  enters_from_exit : (p q : Place) → IsCoded d q →
+  enters_from_exit : (p : Place) {q : Place} → IsCoded d q →
       list_any (enters d t p q) (range_with_len 0 (moves d - 1)) ≡ true → Enters p q
-  enters_from_exit p q is y =
-      let x = enters_from d (ending d t flows s counts) t p q y in
+  enters_from_exit p {q} is y =
+      let x = enters_from (ending s counts) t p q y in
       record {
         steps = x.0;
         leads = x.1;
         crosses = record {
-          coded = coded_along d s.ends q is x.0;
+          coded = coded_along s.ends is x.0;
           apart = λ e. x.2 (sym e ∙ ap (tile_of_place t) x.1);
         };
       }
 
   -- A flow path enters p from at most one cell of another tile.
-  enters_once : (p q : Place) → IsCoded d q → (a b : ℕ) → LeavesTile d t flows s (follow d q a) →
-      next d (follow d q a) ≡ p → LeavesTile d t flows s (follow d q b) → next d
+  enters_once : (p q : Place) → IsCoded d q → (a b : ℕ) → LeavesTile s (follow d q a) →
+      next d (follow d q a) ≡ p → LeavesTile s (follow d q b) → next d
       (follow d q b) ≡ p →
       follow d q a ≡ follow d q b
   enters_once p q is a b c first x second =
-      let e = ending d t flows s counts in
-      ap (follow d q) (enters_from_one d e (λ z. z ≡ p) q is (suc a) (suc b) (first ∙ sym second)
-      (one_move d e q p a first (λ z. c.apart (ap (tile_of_place t) (first ∙ sym z))))
-      (one_move d e q p b second (λ z. x.apart (ap (tile_of_place t) (second ∙ sym z)))))
+      let e = ending s counts in
+      ap (follow d q) (enters_from_one e (λ z. z ≡ p) is (first ∙ sym second)
+      (one_move e q p a first (λ z. c.apart (ap (tile_of_place t) (first ∙ sym z))))
+      (one_move e q p b second (λ z. x.apart (ap (tile_of_place t) (second ∙ sym z)))))
 
   -- What the cell of row-order index c adds to the amount that rim number i sends to p's rim
   -- number. It is 1 if the cell of i flows into a place of p's rim number in another tile, and the
@@ -99,7 +99,7 @@ module _ (d : Directed) (t : Cutting) (flows : List Flow) (s : AreFlowsOf d t fl
 
   -- Rim number i has an exit into another tile, whose direction leads to p.
   record LeadsTo (p : Place) (i : ℕ) : Type 0 where
-    pub crosses : LeavesTile d t flows s (rim_place t i)
+    pub crosses : LeavesTile s (rim_place t i)
     pub number : rim_number t (rim_place t i) ≡ i
     pub leads : next d (rim_place t i) ≡ p
 
@@ -111,11 +111,11 @@ module _ (d : Directed) (t : Cutting) (flows : List Flow) (s : AreFlowsOf d t fl
       | inr f ↦ inl (λ amount. ap (λ (o : Option Place). sent_to t (rim_number t p) o amount) q.1
           ∙ cond-false {A = ℕ} _ amount 0 f)
       | inl y ↦
-          let x = target_from d t flows s i q.0 q.1 in
+          let x = target_from s i q.0 q.1 in
           inr (record {
             crosses = x.crosses;
             number = x.number;
-            leads = sym (entry_back (rim_place t i) x.crosses) ∙ ap (λ z.
+            leads = sym (entry_back x.crosses) ∙ ap (λ z.
                 rim_place t (rim_number t z)) (sym x.is) ∙ ap (rim_place t) (eqb-true _ _ y) ∙ on;
           })
     ]
@@ -126,9 +126,9 @@ module _ (d : Directed) (t : Cutting) (flows : List Flow) (s : AreFlowsOf d t fl
   piece_off p on c i none = elim (cases_lead p on i) [
     | inl z ↦ z (drained d (rim_place t i) (cell d c))
     | inr l ↦ elim (cases_Bool (drains_through d (rim_place t i) (cell d c))) [
-      | inr n ↦ ap (sent_to t (rim_number t p) (target_by t flows i)) (counted_off d (cell d c) _ n)
+      | inr n ↦ ap (sent_to t (rim_number t p) (target_by t flows i)) (counted_off d (cell d c) n)
           ∙ sent-none t (rim_number t p) (target_by t flows i)
-      | inl through ↦ (let m = drains_from d (ending d t flows s counts) (cell d c)
+      | inl through ↦ (let m = drains_from (ending s counts) (cell d c)
           (rim_place t i) through in absurd (none m.0 m.1 l))
     ]
   ]
@@ -144,26 +144,25 @@ module _ (d : Directed) (t : Cutting) (flows : List Flow) (s : AreFlowsOf d t fl
         let is = coded_from_some d (cell d c) some in
         elim (cases_Bool (list_any (enters d t p (cell d c)) (range_with_len 0 (moves d - 1)))) [
           | inl y ↦
-              let x = enters_from_exit p (cell d c) is y in
+              let x = enters_from_exit p is y in
               one_term (piece p c) (rim_number_count t) (rim_number t (follow d (cell d c) x.steps))
-              (to_below d t flows s (follow d (cell d c) x.steps) x.crosses)
+              (to_below s x.crosses)
               (λ i h ne. piece_off p on c i (λ m at l.
-              let same = enters_once p (cell d c) is m x.steps (subst (λ (z : Place). LeavesTile d t
-              flows s z) (sym at) l.crosses) (ap (next d) at ∙ l.leads) x.crosses x.leads in
+              let same = enters_once p (cell d c) is m x.steps (rw (at) l.crosses) (ap (next d) at ∙ l.leads)
+              x.crosses x.leads in
               ne (sym l.number ∙ ap (rim_number t) (sym at ∙ same))))
               ∙ ap (λ (o : Option Place). sent_to t (rim_number t p) o
               (drained d (rim_place t (rim_number t (follow d (cell d c) x.steps))) (cell d c)))
-              (target_on d t flows s (follow d (cell d c) x.steps) x.crosses)
+              (target_on s x.crosses)
               ∙ cond-true {A = ℕ} _ (drained d (rim_place t (rim_number t
               (follow d (cell d c) x.steps))) (cell d c)) 0 (eq-eqb _ _ (ap (rim_number t) x.leads))
               ∙ ap (λ z.
-              drained d z (cell d c)) (back d t flows s (follow d (cell d c) x.steps) x.crosses)
-              ∙ counted_on d (cell d c) _ is (drains_at d (ending d t flows s counts) (cell d c)
-              (follow d (cell d c) x.steps) is x.steps refl)
+              drained d z (cell d c)) (back s x.crosses)
+              ∙ counted_on is (drains_at (ending s counts) is x.steps refl)
               ∙ sym (cond-true {A = ℕ} _ 1 0 (and_from _ _ some y))
           | inr n ↦
               sum_below-none (piece p c) (rim_number_count t) (λ i h. piece_off p on c i (λ m at l.
-              false≢true (sym n ∙ enters_at d (ending d t flows s counts) t p (cell d c) is m
+              false≢true (sym n ∙ enters_at (ending s counts) t p (cell d c) is m
               (ap (next d) at ∙ l.leads)
               (λ z.
               l.crosses.apart (ap (tile_of_place t) l.leads ∙ sym z ∙ ap (tile_of_place t) at)))))
@@ -180,13 +179,13 @@ module _ (d : Directed) (t : Cutting) (flows : List Flow) (s : AreFlowsOf d t fl
             (list_any (enters d t p (cell d c)) (range_with_len 0 (moves d - 1)))) [
               | inr n ↦ cond-false {A = ℕ} _ 1 0 (and_right _ _ n)
               | inl y ↦
-                  (let x = enters_from_exit p (cell d c) (coded_from_some d (cell d c) some) y in
+                  (let x = enters_from_exit p (coded_from_some d (cell d c) some) y in
                   absurd (off (ap (λ z. rim_place t (rim_number t z)) (sym x.leads)
-                  ∙ entry_back (follow d (cell d c) x.steps) x.crosses ∙ x.leads)))
+                  ∙ entry_back x.crosses ∙ x.leads)))
             ]
       ])
 
-  module _ (links weights totals : List ℕ) (targets : List (Option Place))
+  module _ {links weights totals : List ℕ} {targets : List (Option Place)}
       (asked : targets ≡ targets_by t flows) (made : links ≡ rim_links_by t flows)
       (weighed : weights ≡ rim_weights_by t flows) (summed : AreSums links weights totals) where
     -- The amount that rim number i sends to the rim number of its target is the number of cells
@@ -194,15 +193,15 @@ module _ (d : Directed) (t : Cutting) (flows : List Flow) (s : AreFlowsOf d t fl
     sends : (k i : ℕ) → i < rim_number_count t → entering t targets totals k i
         ≡ sent_to t k (target_by t flows i) (all_drained d (rim_place t i))
     sends k i h =
-        let at = summed.each i (omega (arith, h, links_size d t flows s links made)) in
+        let at = summed.each i (omega (arith, h, links_size s made)) in
         ap (λ (o : Option Place). sent_to t k o (get_or totals i 0))
-        (target_listed t flows targets asked i h)
+        (target_listed t flows asked i h)
         ∙ elim (cases_option (target_by t flows i)) [
           | inl none ↦ ap (λ (o : Option Place).
               sent_to t k o (get_or totals i 0)) none
               ∙ sym (ap (λ (o : Option Place). sent_to t k o (all_drained d (rim_place t i))) none)
           | inr q ↦ ap (sent_to t k (target_by t flows i)) (at
-              ∙ total_drained d t flows s counts links made weights weighed i q.0 h q.1)
+              ∙ total_drained s counts made weighed i q.0 h q.1)
         ]
 
     -- All amounts sent to a place on the rim add up to its inflow.
@@ -229,7 +228,7 @@ module _ (d : Directed) (t : Cutting) (flows : List Flow) (s : AreFlowsOf d t fl
                 arith,
                 same,
                 entering_is (rim_place t k) (ap (rim_place t) e),
-                entered_few d (ending d t flows s counts) t (rim_place t k),
+                entered_few (ending s counts) t (rim_place t k),
               )
           | inr ne ↦
               omega (
@@ -237,14 +236,14 @@ module _ (d : Directed) (t : Cutting) (flows : List Flow) (s : AreFlowsOf d t fl
                 sum_below-none (entering t targets totals k) (rim_number_count t)
                     (λ i h. ap
                     (λ (o : Option Place). sent_to t k o (get_or totals i 0))
-                    (target_listed t flows targets asked i h)
+                    (target_listed t flows asked i h)
                     ∙ elim (cases_option (target_by t flows i)) [
                       | inl none ↦ ap (λ (o : Option Place).
                           sent_to t k o (get_or totals i 0)) none
                       | inr q ↦
-                          let x = target_from d t flows s i q.0 q.1 in
+                          let x = target_from s i q.0 q.1 in
                           let back_at : rim_place t (rim_number t q.0) ≡ q.0 = ap (λ z. rim_place t
-                          (rim_number t z)) x.is ∙ entry_back (rim_place t i) x.crosses
+                          (rim_number t z)) x.is ∙ entry_back x.crosses
                           ∙ sym x.is in
                           ap (λ (o : Option Place).
                           sent_to t k o (get_or totals i 0)) q.1
@@ -255,7 +254,7 @@ module _ (d : Directed) (t : Cutting) (flows : List Flow) (s : AreFlowsOf d t fl
               )
         ]
 
-    module _ (listed : List ℕ) (are : AreEntering t targets totals listed) where
+    module _ {listed : List ℕ} (are : AreEntering t targets totals listed) where
       pub inflow_at : (p : Place) → IsWithin t p → inflow_by t listed p ≡ inflow_of d t p
       inflow_at p w = elim (cases_Bool (is_place (rim_place t (rim_number t p)) p)) [
         | inr f ↦ cond-false {A = ℕ} _ (get_or listed (rim_number t p) 0) 0 f

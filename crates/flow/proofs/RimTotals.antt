@@ -20,24 +20,24 @@ use Rattle.flow.specs.RimGraph.{AreFlowsOf, target_by, next_exit_by, number_or, 
 use Rattle.flow.specs.Inflows.{rim_weight, rim_weights_by, weight_or, through_by}
 use Rattle.tile_jobs.proofs.Sums.{cond_same, sum_below-same, sum_below-add, sum_below-none, exchange, one_term, cond-sum}
 use Rattle.flow.proofs.Ranges.{some_in_range, any_in_range, every_in_range}
-use Rattle.flow.proofs.Totals.{each_downstream, totals_are, sums_same, leads_parts, leads_from}
+use Rattle.flow.proofs.Totals.{each_downstream, totals_are, sums_same, leads_parts, leads_from, upstream}
 use Rattle.terrain.proofs.Options.{cases_option}
 use Rattle.flow.proofs.Coded.{IsCoded, coded_along, coded_from_some, outlet_stays, follow_stays, follow_more, follow_first}
 use Rattle.flow.proofs.RimFlows.{LeavesTile, NextExit, flow_of, within_of, back, target_on, target_from, exit_here, not_outlet, to_below, next_or_last_exit, untargeted, links_size, link_at, rim_streams}
 use Rattle.flow.proofs.Reaching.{IsEnding, ending_of, still_at, still_from, reached_early, drains_at, drains_from, EntersRegion, stays_or_enters, never_enters, enters_from_one}
-use Rattle.flow.proofs.DrainedCells.{cell, drained, all_drained, drained_few, drained_inside, all_drained_inside, drained_inside_few, through_is, counted_on, counted_off, counted_none}
+use Rattle.flow.proofs.DrainedCells.{cell, drained, all_drained, drained_few, drained_inside, all_drained_inside, drained_inside_few, through_is, counted_on, counted_off, counted_none, counts_upstream}
 
-module _ (d : Directed) (t : Cutting) (flows : List Flow) (s : AreFlowsOf d t flows)
+module _ {d : Directed} {t : Cutting} {flows : List Flow} (s : AreFlowsOf d t flows)
     (counts : AreTileCounts d t flows) where
   pub ending : IsEnding d
-  ending = ending_of d t s.ends s.cutting s.of_tiles.size
+  ending = ending_of d s.ends s.cutting s.of_tiles.size
 
   -- If q's flow path leaves a tile at c, c is q's exit e, or the path left q's tile by e earlier.
-  leaves_at : (q e c : Place) → IsExitOf d t q e → (m : ℕ) → follow d q m ≡ c →
-      LeavesTile d t flows s c →
+  leaves_at : (q e : Place) {c : Place} → IsExitOf d t q e → (m : ℕ) → follow d q m ≡ c →
+      LeavesTile s c →
       (c ≡ e)
       ⊎ ((k : ℕ) × (k < m) × (follow d q k ≡ e) × (tile_of_place t (next d e) ≢ tile_of_place t e))
-  leaves_at q e c x m way cr = elim (cases_lt m x.0) [
+  leaves_at q e x m way cr = elim (cases_lt m x.0) [
     | inl l ↦ (let at : (j : ℕ) → j < x.0 + 1 → tile_of_place t (follow d q j) ≡ tile_of_place t q =
         λ j h. eqb-true _ _ (every_in_range
         (λ j. eqb (tile_of_place t (follow d q j)) (tile_of_place t q)) (x.0 + 1) x.2 j h) in
@@ -58,16 +58,16 @@ module _ (d : Directed) (t : Cutting) (flows : List Flow) (s : AreFlowsOf d t fl
   pub weight_targeted : (j : ℕ) (q : Place) → target_by t flows j ≡ Some q →
       rim_weight t flows j ≡ all_drained_inside d t (rim_place t j)
   weight_targeted j q e =
-      let x = (target_from d t flows s j q e).crosses in
-      let w = within_of d t flows s (rim_place t j) x.coded in
-      let f = flow_of d t flows s (rim_place t j) w in
+      let x = (target_from s j q e).crosses in
+      let w = within_of s x.coded in
+      let f = flow_of s (rim_place t j) w in
       let entry = MatchOption-at_some _ _ x.coded.code x.coded.is ((counts.each
       (tile_of_place t (rim_place t j)) f.flow f.is).each (rim_place t j) (w, refl)) in
       ap (weight_or (through_by t flows (rim_place t j))) e
       ∙ ap (λ (o : Option Flow).
       unwrap_or (option_and_then (λ (z : Flow). through_in z (rim_place t j)) o) 0 + 1) f.is
       ∙ ap (λ (o : Option ℕ). unwrap_or o 0 + 1) entry
-      ∙ sym (through_is d ending t (rim_place t j) x.coded)
+      ∙ sym (through_is ending t x.coded)
 
   pub weight_untargeted : (j : ℕ) → target_by t flows j ≡ None → rim_weight t flows j ≡ 0
   weight_untargeted j e = ap (weight_or (through_by t flows (rim_place t j))) e
@@ -76,65 +76,65 @@ module _ (d : Directed) (t : Cutting) (flows : List Flow) (s : AreFlowsOf d t fl
   weight_few j = elim (cases_option (target_by t flows j)) [
     | inl none ↦ omega (arith, weight_untargeted j none)
     | inr q ↦
-        omega (arith, weight_targeted j q.0 q.1, drained_inside_few d ending t (rim_place t j))
+        omega (arith, weight_targeted j q.0 q.1, drained_inside_few ending t (rim_place t j))
   ]
 
-  module _ (links : List ℕ) (made : links ≡ rim_links_by t flows) where
+  module _ {links : List ℕ} (made : links ≡ rim_links_by t flows) where
     -- If exit j is linked to another exit i, water that leaves by j leaves the next tile by i.
     leads_out : (i j : ℕ) → j < rim_number_count t →
-        leads_to links j i ≡ true → (g : NextExit d t flows s j) × (rim_number t g.to ≡ i) ×
+        leads_to links j i ≡ true → (g : NextExit s j) × (rim_number t g.to ≡ i) ×
         (q : Place)
         × (target_by t flows j ≡ Some q)
     leads_out i j h y =
         let l = leads_parts links j i y in
-        let at = link_at d t flows s links made j h in
+        let at = link_at s made j h in
         elim (cases_option (target_by t flows j)) [
-          | inl none ↦ absurd (l.1 (sym (at ∙ untargeted d t flows s j none) ∙ l.0))
-          | inr q ↦ elim (next_or_last_exit d t flows s j q.0 q.1) [
+          | inl none ↦ absurd (l.1 (sym (at ∙ untargeted s j none) ∙ l.0))
+          | inr q ↦ elim (next_or_last_exit s j q.0 q.1) [
             | inr stop ↦ absurd (l.1 (sym (at ∙ stop.link) ∙ l.0))
             | inl g ↦ (g, sym (at ∙ g.link) ∙ l.0, q.0, q.1)
           ]
         ]
 
     -- Exit e is linked to the exit of the place that e flows into, if both lead into other tiles.
-    link_on : (e : Place) → LeavesTile d t flows s e → (is : IsCoded d (next d e)) →
-        LeavesTile d t flows s (exit_here d t flows s (next d e) is).0 →
-        next_node links (rim_number t e) ≡ rim_number t (exit_here d t flows s (next d e) is).0
-    link_on e c is to =
-        let x = exit_here d t flows s (next d e) is in
-        link_at d t flows s links made (rim_number t e) (to_below d t flows s e c)
+    link_on : {e : Place} → LeavesTile s e → (is : IsCoded d (next d e)) →
+        LeavesTile s (exit_here s is).0 →
+        next_node links (rim_number t e) ≡ rim_number t (exit_here s is).0
+    link_on {e} c is to =
+        let x = exit_here s is in
+        link_at s made (rim_number t e) (to_below s c)
         ∙ ap (λ (o : Option Place). number_or t (rim_number t e)
-        (option_and_then (λ q. next_exit_by t flows q) o)) (target_on d t flows s e c)
+        (option_and_then (λ q. next_exit_by t flows q) o)) (target_on s c)
         ∙ ap (number_or t (rim_number t e)) (x.1.out
-        ∙ cond-false {A = Option Place} _ None (Some x.0) (not_outlet d t flows s x.0 to))
+        ∙ cond-false {A = Option Place} _ None (Some x.0) (not_outlet s to))
 
     -- A flow path from cell c to exit i stays in the tile of c, or passes exactly one other exit
     -- linked to i.
-    module _ (i : ℕ) (q : Place) (target : target_by t flows i ≡ Some q) (c : Place)
+    module _ (i : ℕ) (q : Place) (target : target_by t flows i ≡ Some q) {c : Place}
         (is : IsCoded d c) where
       abbrev In : Place → Type 0
       In p = tile_of_place t p ≡ tile_of_place t (rim_place t i)
 
       abbrev term : ℕ → ℕ
-      term j = cond {A = ℕ} (leads_to links j i) (drained d (rim_place t j) c) 0
+      term j = upstream links j i (drained d (rim_place t j) c)
 
       term_off : (j : ℕ) → j < rim_number_count t →
-          ((k : ℕ) → follow d c k ≡ rim_place t i → (x : EntersRegion d ending In c k) →
+          ((k : ℕ) → follow d c k ≡ rim_place t i → (x : EntersRegion ending In c k) →
           follow d c x.from ≡ rim_place t j → rim_number t (rim_place t j) ≡ j → ⊥) → term j ≡ 0
       term_off j h none = elim (cases_Bool (leads_to links j i)) [
         | inr n ↦ cond-false {A = ℕ} _ _ 0 n
-        | inl y ↦ cond-true {A = ℕ} _ _ 0 y ∙ counted_off d c _
-            (false_from_ne_true _ (λ z. (let m = drains_from d ending c (rim_place t j) z in
+        | inl y ↦ cond-true {A = ℕ} _ _ 0 y ∙ counted_off d c
+            (false_from_ne_true _ (λ z. (let m = drains_from ending c (rim_place t j) z in
             let o = leads_out i j h y in
-            let x = target_from d t flows s j o.2 o.3 in
-            crosses_over j m.0 m.1 o.0 (sym (back d t flows s o.0.to o.0.crosses) ∙ ap
+            let x = target_from s j o.2 o.3 in
+            crosses_over j m.0 m.1 o.0 (sym (back s o.0.crosses) ∙ ap
             (rim_place t) o.1) x.crosses.apart (λ k at comes from. none k at comes from x.number))))
       ]
         where
           crosses_over : (j m : ℕ) →
-              follow d c m ≡ rim_place t j → (g : NextExit d t flows s j) → g.to ≡ rim_place t i →
+              follow d c m ≡ rim_place t j → (g : NextExit s j) → g.to ≡ rim_place t i →
               tile_of_place t (next d (rim_place t j)) ≢ tile_of_place t (rim_place t j) →
-              ((k : ℕ) → follow d c k ≡ rim_place t i → (x : EntersRegion d ending In c k) →
+              ((k : ℕ) → follow d c k ≡ rim_place t i → (x : EntersRegion ending In c k) →
               follow d c x.from ≡ rim_place t j → ⊥) → ⊥
           crosses_over j m at g same apart none =
               let on : (l : ℕ) → follow d c (m + suc l) ≡ follow d (next d (rim_place t j)) l =
@@ -151,7 +151,7 @@ module _ (d : Directed) (t : Cutting) (flows : List Flow) (s : AreFlowsOf d t fl
                 before = omega arith;
                 outside = λ z. apart (still 0 (omega arith) ∙ sym z ∙ ap (tile_of_place t) at);
                 inside = λ l lt le. (let z : m + suc (l - suc m) ≡ l = omega arith in
-                    subst (λ (n : ℕ). In (follow d c n)) z (ap (tile_of_place t) (on (l - suc m))
+                    rw z at (ap (tile_of_place t) (on (l - suc m))
                     ∙ still (l - suc m) (omega arith)));
               }) at
 
@@ -174,30 +174,30 @@ module _ (d : Directed) (t : Cutting) (flows : List Flow) (s : AreFlowsOf d t fl
       parts = elim (cases_Bool (drains_through d (rim_place t i) c)) [
         | inr n ↦ omega (
           arith,
-          counted_off d c _ n,
-          counted_off d c (reaches_inside d t (rim_place t i) c)
+          counted_off d c n,
+          counted_off d c
               (false_from_ne_true _ (λ y. (let r = reached y in
-              false≢true (sym n ∙ drains_at d ending c (rim_place t i) is r.0 r.1)))),
+              false≢true (sym n ∙ drains_at ending is r.0 r.1)))),
           sum_below-none term (length links) (λ j l.
-              term_off j (omega (arith, l, links_size d t flows s links made))
-              (λ k way _ _ _. false≢true (sym n ∙ drains_at d ending c (rim_place t i) is k way))),
+              term_off j (omega (arith, l, links_size s made))
+              (λ k way _ _ _. false≢true (sym n ∙ drains_at ending is k way))),
         )
-        | inl y ↦ (let m = drains_from d ending c (rim_place t i) y in
-            elim (stays_or_enters d ending In (λ p. cases_eq (tile_of_place t p)
+        | inl y ↦ (let m = drains_from ending c (rim_place t i) y in
+            elim (stays_or_enters ending In (λ p. cases_eq (tile_of_place t p)
             (tile_of_place t (rim_place t i))) c m.0 (ap (tile_of_place t) m.1)) [
               | inl way ↦
-                  let r = reached_early d ending c (rim_place t i) is m.0 m.1 in
+                  let r = reached_early ending is m.0 m.1 in
                   omega (
                     arith,
-                    counted_on d c _ is y,
-                    counted_on d c (reaches_inside d t (rim_place t i) c) is (any_in_range (λ k.
+                    counted_on is y,
+                    counted_on is (any_in_range (λ k.
                         is_place (rim_place t i) (follow d c k) && stays d t c k) (moves d) r.0 r.1
                         (and_from _ _ (is_place_from (rim_place t i) (follow d c r.0) (sym r.3))
                         (still_from d t c r.0 (λ l le. way l (omega (arith, le, r.2))
                         ∙ sym (way 0 (omega arith)))))),
                     sum_below-none term (length links) (λ j l.
-                        term_off j (omega (arith, l, links_size d t flows s links made))
-                        (λ k at x _ _. never_enters d ending In c is m.0 k (m.1 ∙ sym at) way x)),
+                        term_off j (omega (arith, l, links_size s made))
+                        (λ k at x _ _. never_enters ending In is m.0 (m.1 ∙ sym at) way x)),
                   )
               | inr x ↦ from_outside y m.0 m.1 x
             ])
@@ -206,18 +206,18 @@ module _ (d : Directed) (t : Cutting) (flows : List Flow) (s : AreFlowsOf d t fl
           -- The exit by which the flow path of c last enters the tile of exit i, before it reaches
           -- i, is linked to i.
           linked : (k : ℕ) → follow d c k ≡ rim_place t i →
-              (x : EntersRegion d ending In c k) → (cr : LeavesTile d t flows s
+              (x : EntersRegion ending In c k) → (cr : LeavesTile s
               (follow d c x.from)) →
               next_node links (rim_number t (follow d c x.from)) ≡ i
           linked k at x cr =
-              let coded = coded_along d s.ends c is (suc x.from) in
-              let e = exit_here d t flows s (next d (follow d c x.from)) coded in
-              let here = target_from d t flows s i q target in
+              let coded = coded_along s.ends is (suc x.from) in
+              let e = exit_here s coded in
+              let here = target_from s i q target in
               let on : (l : ℕ) → follow d (next d (follow d c x.from)) l
               ≡ follow d c (suc x.from + l) = λ l. follow_more d c (suc x.from) l in
               let all : suc x.from + (k - suc x.from) ≡ k = omega (arith, x.before) in
               let same : rim_place t i ≡ e.0 =
-              elim (leaves_at (next d (follow d c x.from)) e.0 (rim_place t i) e.1.leads
+              elim (leaves_at (next d (follow d c x.from)) e.0 e.1.leads
               (k - suc x.from) (on (k - suc x.from) ∙ ap (follow d c) all ∙ at) here.crosses) [
                 | inl y ↦ y
                 | inr far ↦ absurd (far.3 (ap (λ p. tile_of_place t (next d p)) (sym far.2)
@@ -226,90 +226,59 @@ module _ (d : Directed) (t : Cutting) (flows : List Flow) (s : AreFlowsOf d t fl
                     ∙ sym (ap (tile_of_place t) (sym far.2 ∙ on far.0)
                     ∙ x.inside (suc x.from + far.0) (omega arith) (omega (arith, far.1)))))
               ] in
-              link_on (follow d c x.from) cr coded (subst (λ (p : Place). LeavesTile d t flows s p)
-              same here.crosses) ∙ ap (rim_number t) (sym same) ∙ here.number
+              link_on cr coded (rw same at here.crosses) ∙ ap (rim_number t) (sym same) ∙ here.number
 
           from_outside : drains_through d (rim_place t i) c ≡ true → (k : ℕ) →
-              follow d c k ≡ rim_place t i → (x : EntersRegion d ending In c k) →
+              follow d c k ≡ rim_place t i → (x : EntersRegion ending In c k) →
               drained d (rim_place t i) c ≡ drained_inside d t (rim_place t i) c
               + sum_below term (length links)
           from_outside y k at x =
               let entry : In (next d (follow d c x.from)) =
               x.inside (suc x.from) (omega arith) (omega (arith, x.before)) in
-              let cr : LeavesTile d t flows s (follow d c x.from) = record {
-                coded = coded_along d s.ends c is x.from;
+              let cr : LeavesTile s (follow d c x.from) = record {
+                coded = coded_along s.ends is x.from;
                 apart = λ z. x.outside (sym z ∙ entry);
               } in
               let place : rim_place t (rim_number t (follow d c x.from)) ≡ follow d c x.from =
-              back d t flows s (follow d c x.from) cr in
+              back s cr in
               let leads : leads_to links (rim_number t (follow d c x.from)) i ≡ true =
-              leads_from links _ i (linked k at x cr) (λ z.
+              leads_from links _ (linked k at x cr) (λ z.
               x.outside (ap (tile_of_place t) (sym place ∙ ap (rim_place t) z))) in
               omega (
                 arith,
-                counted_on d c _ is y,
-                counted_off d c (reaches_inside d t (rim_place t i) c)
+                counted_on is y,
+                counted_off d c
                     (false_from_ne_true _ (λ z. (let r = reached z in
-                    never_enters d ending In c is r.0 k (r.1 ∙ sym at) r.2 x))),
+                    never_enters ending In is r.0 (r.1 ∙ sym at) r.2 x))),
                 one_term term (length links) (rim_number t (follow d c x.from)) (omega (
                   arith,
-                  to_below d t flows s (follow d c x.from) cr,
-                  links_size d t flows s links made,
+                  to_below s cr,
+                  links_size s made,
                 ))
-                    (λ j l ne. term_off j (omega (arith, l, links_size d t flows s links made))
+                    (λ j l ne. term_off j (omega (arith, l, links_size s made))
                     (λ m there z at_j number.
                     ne (sym number ∙ ap (rim_number t) (sym at_j ∙ ap (follow d c)
-                    (enters_from_one d ending In c is m k (there ∙ sym at) z x))))),
+                    (enters_from_one ending In is (there ∙ sym at) z x))))),
                 cond-true {A =
                     ℕ} _ (drained d (rim_place t (rim_number t (follow d c x.from))) c) 0 leads,
-                counted_on d c (drains_through d (rim_place t (rim_number t (follow d c x.from))) c)
-                    is (drains_at d ending c _ is x.from (sym place)),
+                counted_on
+                    is (drains_at ending is x.from (sym place)),
               )
 
     none_leads : (i j : ℕ) → target_by t flows i ≡ None → j < rim_number_count t →
         leads_to links j i ≡ false
     none_leads i j none h = false_from_ne_true _ (λ y. (let o = leads_out i j h y in
         none-some (next d o.0.to) (sym none ∙ ap (target_by t flows) (sym o.1)
-        ∙ target_on d t flows s o.0.to o.0.crosses)))
-
-    -- 1 if exit j is linked to another exit i, and the flow path of cell c contains exit j; else 0.
-    -- Cell c has row-order index c.
-    abbrev over : ℕ → ℕ → ℕ → ℕ
-    over i c j = cond {A = ℕ} (leads_to links j i) (drained d (rim_place t j) (cell d c)) 0
+        ∙ target_on s o.0.crosses)))
 
     -- As many cells drain through exit i as reach it inside its tile or by exits linked to it.
     tallied : (i : ℕ) (q : Place) → target_by t flows i ≡ Some q →
         all_drained d (rim_place t i) ≡ all_drained_inside d t (rim_place t i)
         + upstream_sum links (λ j. all_drained d (rim_place t j)) i
-    tallied i q e = omega (
-      arith,
-      sum_below-same (λ c. drained d (rim_place t i) (cell d c)) (λ c.
-          drained_inside d t (rim_place t i) (cell d c) + sum_below (over i c) (length links))
-          (d.rows * d.cols) (λ c _. of_cell c),
-      sum_below-add (λ c. drained_inside d t (rim_place t i) (cell d c)) (λ c.
-          sum_below (over i c) (length links)) (d.rows * d.cols),
-      exchange (over i) (d.rows * d.cols) (length links),
-      sum_below-same (λ j. sum_below (λ c. over i c j) (d.rows * d.cols)) (λ j.
-          cond {A = ℕ} (leads_to links j i) (all_drained d (rim_place t j)) 0) (length links)
-          (λ j _. sym (cond-sum (leads_to links j i) (λ c. drained d (rim_place t j) (cell d c))
-          (d.rows * d.cols))),
-    )
-      where
-        of_cell : (c : ℕ) → drained d (rim_place t i) (cell d c)
-            ≡ drained_inside d t (rim_place t i) (cell d c) + sum_below (over i c) (length links)
-        of_cell c = elim (cases_Bool (is_some (code_at d (cell d c)))) [
-          | inl y ↦ parts i q e (cell d c) (coded_from_some d (cell d c) y)
-          | inr n ↦ omega (
-            arith,
-            counted_none d (cell d c) (drains_through d (rim_place t i) (cell d c)) n,
-            counted_none d (cell d c) (reaches_inside d t (rim_place t i) (cell d c)) n,
-            sum_below-none (over i c) (length links)
-                (λ j _. ap (λ x. cond {A = ℕ} (leads_to links j i) x 0) (counted_none d (cell d c)
-                (drains_through d (rim_place t j) (cell d c)) n) ∙ cond_same (leads_to links j i)),
-          )
-        ]
+    tallied i q e = counts_upstream d links i (λ j. drains_through d (rim_place t j))
+        (drained_inside d t (rim_place t i)) (λ c is. parts i q e is) (λ c none. counted_none d c _ none)
 
-    module _ (weights : List ℕ) (weighed : weights ≡ rim_weights_by t flows) where
+    module _ {weights : List ℕ} (weighed : weights ≡ rim_weights_by t flows) where
       pub weights_size : length weights ≡ rim_number_count t
       weights_size = ap length weighed
           ∙ length-map-range_with_len (rim_weight t flows) 0 (rim_number_count t)
@@ -320,16 +289,16 @@ module _ (d : Directed) (t : Cutting) (flows : List Flow) (s : AreFlowsOf d t fl
           (omega arith)
 
       numbered : (i : ℕ) → i < length links → i < rim_number_count t
-      numbered i h = omega (arith, h, links_size d t flows s links made)
+      numbered i h = omega (arith, h, links_size s made)
 
       linked : (i : ℕ) → i < rim_number_count t → i < length links
-      linked i h = omega (arith, h, links_size d t flows s links made)
+      linked i h = omega (arith, h, links_size s made)
 
       pub total_drained : (i : ℕ) (q : Place) → i < rim_number_count t →
           target_by t flows i ≡ Some q →
           total links weights i ≡ all_drained d (rim_place t i)
       total_drained i q h e =
-          each_downstream links (rim_streams d t flows s links made) (λ k i. (q : Place) → target_by
+          each_downstream (rim_streams s made) (λ k i. (q : Place) → target_by
           t flows i ≡ Some q → total_within links weights k i ≡ all_drained d (rim_place t i))
           (λ k i l before q e. omega (
             arith,
@@ -343,13 +312,13 @@ module _ (d : Directed) (t : Cutting) (flows : List Flow) (s : AreFlowsOf d t fl
 
       pub total_few : (i : ℕ) → i < rim_number_count t → total links weights i ≤ 16777216
       total_few i h = elim (cases_option (target_by t flows i)) [
-        | inr q ↦ omega (arith, total_drained i q.0 h q.1, drained_few d ending (rim_place t i))
+        | inr q ↦ omega (arith, total_drained i q.0 h q.1, drained_few ending (rim_place t i))
         | inl none ↦ omega (
           arith,
-          (totals_are links weights (rim_streams d t flows s links made)).each i (linked i h),
+          (totals_are links weights (rim_streams s made)).each i (linked i h),
           weight_at i h,
           weight_untargeted i none,
-          sum_below-none (λ j. cond {A = ℕ} (leads_to links j i) (total links weights j) 0)
+          sum_below-none (λ j. upstream links j i (total links weights j))
               (length links)
               (λ j m.
               cond-false {A = ℕ} _ (total links weights j) 0 (none_leads i j none (numbered j m))),

@@ -8,17 +8,17 @@ use Rattle.std.proofs.Math.ListN.{length-set}
 use Rattle.tile_jobs.specs.Sums.{sum_below}
 use Rattle.flow.specs.Streams.{next_node, leads_to, AreStreams, AreSums, total}
 use Rattle.flow.specs.Sending.{donor, sent_entry, has_sent, waiting, sent_on, IsSending, AreDonorCounts, IsMarked, noted, AreMarks, AreUnmarked}
-use Rattle.flow.proofs.Totals.{leads_from, each_downstream, totals_le, totals_are, total_is, leads_self, leads_end}
+use Rattle.flow.proofs.Totals.{leads_from, each_downstream, totals_le, totals_are, total_is, leads_self, leads_end, upstream}
 use Rattle.tile_jobs.proofs.Sums.{bit_le, cond_same, sum_below-none, sum_below-few, sum_below-same, sum_below-le, sum_below-except, some_term, term-le-sum_below}
 
-pub and_on : (a b : Bool) → b ≡ true → (a && b) ≡ a
-and_on true b t = t
-and_on false b t = refl
+pub and_on : (a : Bool) {b : Bool} → b ≡ true → (a && b) ≡ a
+and_on true t = t
+and_on false t = refl
 
 waiting-open : (links waits : List ℕ) (i j : ℕ) → has_sent waits j ≡ false →
     waiting links waits i j ≡ donor links i j
 waiting-open links waits i j f = ap (λ x.
-    cond {A = ℕ} x 1 0) (and_on (leads_to links j i) (not (has_sent waits j)) (not_from_false _ f))
+    cond {A = ℕ} x 1 0) (and_on (leads_to links j i) (not_from_false _ f))
 
 waiting-sent : (links waits : List ℕ) (i j : ℕ) → has_sent waits j ≡ true →
     waiting links waits i j ≡ 0
@@ -29,9 +29,9 @@ sent_on-open : (links waits totals : List ℕ) (i j : ℕ) → has_sent waits j 
 sent_on-open links waits totals i j f = cond-false _ _ _ (and_right _ _ f)
 
 sent_on-all : (links waits totals : List ℕ) (i j : ℕ) → has_sent waits j ≡ true →
-    sent_on links waits totals i j ≡ cond {A = ℕ} (leads_to links j i) (get_or totals j 0) 0
+    sent_on links waits totals i j ≡ upstream links j i (get_or totals j 0)
 sent_on-all links waits totals i j t = ap (λ x. cond {A = ℕ} x (get_or totals j 0) 0)
-    (and_on (leads_to links j i) (has_sent waits j) t)
+    (and_on (leads_to links j i) t)
 
 awaited_from : (links waits : List ℕ) (i j : ℕ) → 0 < waiting links waits i j →
     (leads_to links j i ≡ true) × (has_sent waits j ≡ false)
@@ -48,7 +48,7 @@ open_from_count waits i l = ne_eqb _ _ (λ e. omega (arith, e))
 pub leads_test : (links : List ℕ) (node next i : ℕ) → next ≡ next_node links node → next ≢ node →
     leads_to links node i ≡ eqb next i
 leads_test links node next i is ne = elim (cases_eq next i) [
-  | inl e ↦ leads_from links node i (sym is ∙ e) (λ z. ne (e ∙ sym z)) ∙ sym (eq-eqb next i e)
+  | inl e ↦ leads_from links node (sym is ∙ e) (λ z. ne (e ∙ sym z)) ∙ sym (eq-eqb next i e)
   | inr off ↦ and_left _ _ (ne_eqb _ _ (λ z. off (is ∙ z))) ∙ sym (ne_eqb next i off)
 ]
 
@@ -82,7 +82,7 @@ all_sent : (links weights waits totals : List ℕ) → IsSending links weights w
     ((i : ℕ) → i < length links → get_or waits i 0 ≢ 0) →
     (i : ℕ) → i < length links → has_sent waits i ≡ true
 all_sent links weights waits totals s some =
-    each_downstream links s.streams (λ _ i. has_sent waits i ≡ true)
+    each_downstream s.streams (λ _ i. has_sent waits i ≡ true)
     (λ _ i h before. true_from_ne_false _ (λ f.
     (let above : 0 < sum_below (waiting links waits i) (length links) =
     omega (arith, some i h, s.counts i h f) in
@@ -94,12 +94,11 @@ pub sums_from : (links weights waits totals : List ℕ) → IsSending links weig
     ((i : ℕ) → i < length links → get_or waits i 0 ≢ 0) → AreSums links weights totals
 sums_from links weights waits totals s some = record {
   size = s.totals_size;
-  each = λ i h. sym (total_is links weights (λ j. get_or totals j 0) s.streams (record {
+  each = λ i h. sym (total_is {f = λ j. get_or totals j 0} s.streams (record {
     each = λ i h. omega (
       arith,
       s.sums i h,
-      sum_below-same (sent_on links waits totals i) (λ j. cond {A = ℕ} (leads_to links j i)
-          (get_or totals j 0) 0) (length links) (λ j l.
+      sum_below-same (sent_on links waits totals i) (λ j. upstream links j i (get_or totals j 0)) (length links) (λ j l.
           sent_on-all links waits totals i j (all_sent links weights waits totals s some j l)),
     );
   }) i h);
@@ -142,7 +141,7 @@ marks_begin links weights waits streams few size fits node m marked = record {
     none i j l = elim (cases_Bool (has_sent waits j)) [
       | inr f ↦ sent_on-open links waits weights i j f
       | inl t ↦ elim (cases_eq (get_or weights j 0) 0) [
-        | inl e ↦ sent_on-all links waits weights i j t ∙ ap (λ n. cond {A = ℕ} (leads_to links j i) n 0) e
+        | inl e ↦ sent_on-all links waits weights i j t ∙ ap (λ n. upstream links j i n) e
             ∙ cond_same (leads_to links j i)
         | inr ne ↦ absurd (marked j l ne (eqb-true _ _ t))
       ]
@@ -173,7 +172,7 @@ donors_begin links weights waits streams few size fits d =
     }) (λ i h ne e. false≢true (sym (low i h) ∙ eq-eqb _ _ e))
 
 -- Marking the nodes of a path.
-module _ (links waits : List ℕ) (few : length links ≤ 2 ^ 30) (node donors : ℕ)
+module _ {links waits : List ℕ} (few : length links ≤ 2 ^ 30) {node donors : ℕ}
     (m : AreMarks links waits node donors) (inside : node < length links) where
   donors_few : noted waits node + donors ≤ length links
   donors_few = omega (
@@ -194,7 +193,7 @@ module _ (links waits : List ℕ) (few : length links ≤ 2 ^ 30) (node donors :
   entry_fits was = omega (arith, entry_added was, donors_few, few)
 
   -- The entry of `node` becomes one that counts all its donors.
-  module _ (entry : ℕ) (counts : entry ≡ noted waits node + donors) where
+  module _ {entry : ℕ} (counts : entry ≡ noted waits node + donors) where
     open_now : has_sent (set waits node entry) node ≡ false
     open_now = open_from_count _ node (omega (
       arith,
@@ -321,9 +320,9 @@ record MovesOn (links waits totals new_waits new_totals : List ℕ) (node : ℕ)
   pub sent : get_or new_waits node 0 ≡ sent_entry
   pub fewer : (i : ℕ) → i ≢ node → get_or new_waits i 0 + donor links i node ≡ get_or waits i 0
   pub more : (i : ℕ) → get_or new_totals i 0
-      ≡ get_or totals i 0 + cond {A = ℕ} (leads_to links node i) (get_or totals node 0) 0
+      ≡ get_or totals i 0 + upstream links node i (get_or totals node 0)
 
-module _ (links weights waits totals : List ℕ) (s : IsSending links weights waits totals) where
+module _ {links weights waits totals : List ℕ} (s : IsSending links weights waits totals) where
   -- A node's total so far is at most its total.
   so_far_le : (i : ℕ) → i < length links → get_or totals i 0 ≤ total links weights i
   so_far_le = totals_le links s.streams (λ j. get_or weights j 0) (λ j. get_or totals j 0)
@@ -331,8 +330,7 @@ module _ (links weights waits totals : List ℕ) (s : IsSending links weights wa
       (λ i h. omega (
         arith,
         s.sums i h,
-        sum_below-le (sent_on links waits totals i) (λ j. cond {A = ℕ} (leads_to links j i)
-            (get_or totals j 0) 0) (length links) (λ j l.
+        sum_below-le (sent_on links waits totals i) (λ j. upstream links j i (get_or totals j 0)) (length links) (λ j l.
             part_le (leads_to links j i) (has_sent waits j) (get_or totals j 0)),
       ))
       (λ i h. omega (arith, (totals_are links weights s.streams).each i h))
@@ -379,7 +377,7 @@ module _ (links weights waits totals : List ℕ) (s : IsSending links weights wa
           bit_le (leads_to links j i && not (has_sent waits j))),
     )
 
-    module _ (new_waits new_totals : List ℕ)
+    module _ {new_waits new_totals : List ℕ}
         (m : MovesOn links waits totals new_waits new_totals node) where
       sent_now : has_sent new_waits node ≡ true
       sent_now = eq-eqb _ _ m.sent
@@ -418,7 +416,7 @@ module _ (links weights waits totals : List ℕ) (s : IsSending links weights wa
       same_sent i j l ne = elim (cases_Bool (has_sent waits j)) [
         | inl t ↦
             sent_on-all links new_waits new_totals i j (other_sent j l ne ∙ t)
-            ∙ ap (λ n. cond {A = ℕ} (leads_to links j i) n 0)
+            ∙ ap (λ n. upstream links j i n)
             (totals_still j (false_from_ne_true _ (λ on. false≢true (sym (next_open j l on) ∙ t))))
             ∙ sym (sent_on-all links waits totals i j t)
         | inr f ↦ sent_on-open links new_waits new_totals i j (other_sent j l ne ∙ f)
@@ -435,7 +433,7 @@ module _ (links weights waits totals : List ℕ) (s : IsSending links weights wa
             (sent_on links waits totals i) (length links) node inside (same_sent i),
         sent_on-open links waits totals i node node_open,
         sent_on-all links new_waits new_totals i node sent_now,
-        ap (λ n. cond {A = ℕ} (leads_to links node i) n 0)
+        ap (λ n. upstream links node i n)
             (totals_still node (leads_self links node)),
       )
 
@@ -480,8 +478,8 @@ next_waits_list waits node next =
 abbrev pub next_totals_list : List ℕ → ℕ → ℕ → List ℕ
 next_totals_list totals node next = set totals next (get_or totals next 0 + get_or totals node 0)
 
-module _ (links weights waits totals : List ℕ) (s : IsSending links weights waits totals)
-    (node next : ℕ) (inside : node < length links) (ready : get_or waits node 0 ≡ 0)
+module _ {links weights waits totals : List ℕ} (s : IsSending links weights waits totals)
+    (node : ℕ) {next : ℕ} (inside : node < length links) (ready : get_or waits node 0 ≡ 0)
     (is : next ≡ get_or links node 0) where
   sent : get_or (set waits node sent_entry) node 0 ≡ sent_entry
   sent = get_or-set_same waits node sent_entry 0 (omega (arith, s.waits_size))
@@ -494,11 +492,11 @@ module _ (links weights waits totals : List ℕ) (s : IsSending links weights wa
     next_inside = omega (arith, is, s.streams.inside node inside)
 
     pub step_waits : 1 ≤ get_or waits next 0
-    step_waits = next_waits links weights waits totals s node inside ready next next_inside
-        (leads_from links node next (sym is) (λ e. on (sym e)))
+    step_waits = next_waits s node inside ready next next_inside
+        (leads_from links node (sym is) (λ e. on (sym e)))
 
     fewer : (i : ℕ) → i ≢ node → get_or (next_waits_list waits node next) i 0
-        + cond {A = ℕ} (leads_to links node i) 1 0 ≡ get_or waits i 0
+        + upstream links node i 1 ≡ get_or waits i 0
     fewer i ne = elim (cases_eq next i) [
       | inl e ↦ omega (
         arith,
@@ -539,20 +537,20 @@ module _ (links weights waits totals : List ℕ) (s : IsSending links weights wa
 
     pub step_sending : IsSending links weights (next_waits_list waits node next)
         (next_totals_list totals node next)
-    step_sending = sending_on links weights waits totals s node inside ready _ _ moves
+    step_sending = sending_on s node inside ready moves
 
     pub step_fits : get_or totals next 0 + get_or totals node 0 < 2 ^ 32
     step_fits = omega (
       arith,
       get_or-set_same totals next (get_or totals next 0 + get_or totals node 0) 0
           (omega (arith, s.totals_size, next_inside)),
-      so_far_le links weights _ _ step_sending next next_inside,
+      so_far_le step_sending next next_inside,
       s.fits next next_inside,
     )
 
     pub step_falls : unsent (next_waits_list waits node next) (length links)
         < unsent waits (length links)
-    step_falls = falls links weights waits totals s node inside ready _ _ moves
+    step_falls = falls s node inside ready moves
 
     pub step_early : (from : ℕ) → ((i : ℕ) → i < from → i ≢ node → get_or waits i 0 ≢ 0) →
         (i : ℕ) → i < from → i ≢ next → get_or (next_waits_list waits node next) i 0 ≢ 0
@@ -578,7 +576,7 @@ module _ (links weights waits totals : List ℕ) (s : IsSending links weights wa
     }
 
     pub end_sending : IsSending links weights (set waits node sent_entry) totals
-    end_sending = sending_on links weights waits totals s node inside ready _ _ ended
+    end_sending = sending_on s node inside ready ended
 
     pub end_early : (from : ℕ) → ((i : ℕ) → i < from → i ≢ node → get_or waits i 0 ≢ 0) →
         (i : ℕ) → i < from → get_or (set waits node sent_entry) i 0 ≢ 0

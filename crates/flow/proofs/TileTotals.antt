@@ -15,15 +15,15 @@ use Rattle.tile_jobs.specs.Sums.{sum_below}
 use Rattle.flow.specs.Streams.{next_node, leads_to, upstream_sum}
 use Rattle.flow.specs.TileFlow.{stays, reaches_inside, inflow_of}
 use Rattle.tile_jobs.proofs.Sums.{cond_same, sum_below-same, sum_below-add, sum_below-none, exchange, one_term, cond-sum}
-use Rattle.flow.proofs.Ranges.{whole_bounds, some_in_range, any_in_range}
-use Rattle.flow.proofs.Totals.{AreTotals, leads_parts, leads_from}
+use Rattle.flow.proofs.Ranges.{whole_bounds, some_in_range, any_in_range, grid_of}
+use Rattle.flow.proofs.Totals.{AreTotals, leads_parts, leads_from, upstream}
 use Rattle.flow.proofs.Sending.{and_on}
 use Rattle.flow.proofs.Coded.{IsCoded, coded_from_some, coded_along}
 use Rattle.flow.proofs.InTile.{weight_in, AreTileWeights, IsPiece, cases_bounds, in_place, link_is, link-in, link-out, link_place, coded_within, tile_is}
 use Rattle.flow.proofs.Reaching.{IsEnding, still_at, still_from, reached_early, drains_at, drains_from, EntersRegion, stays_or_enters, never_enters, enters_from_one, one_move, enters_from, enters_at}
-use Rattle.flow.proofs.DrainedCells.{cell, all_drained, all_drained_inside, entered, inflow_sum, counted_on, counted_off, counted_none}
+use Rattle.flow.proofs.DrainedCells.{cell, all_drained, all_drained_inside, entered, inflow_sum, counted_on, counted_off, counted_none, counted, counts_upstream}
 
-module _ (d : Directed) (e : IsEnding d) (t : Cutting) (tile : ℕ) (b : Bounds) (links : List ℕ)
+module _ {d : Directed} (e : IsEnding d) {t : Cutting} {tile : ℕ} {b : Bounds} {links : List ℕ}
     (s : IsPiece d t tile b links) where
   -- A link to another cell is one move of the flow path.
   leads_place : (j i : ℕ) → j < length links → leads_to links j i ≡ true →
@@ -31,19 +31,19 @@ module _ (d : Directed) (e : IsEnding d) (t : Cutting) (tile : ℕ) (b : Bounds)
   leads_place j i h on =
       let l = leads_parts links j i on in (
         elim (cases_bounds b (next d (place_in b j))) [
-          | inl y ↦ sym (link_place d t tile b links s j h y) ∙ ap (place_in b) l.0
-          | inr out ↦ absurd (l.1 (sym (link_is d t tile b links s j h ∙ link-out d b j out) ∙ l.0))
+          | inl y ↦ sym (link_place s j h y) ∙ ap (place_in b) l.0
+          | inr out ↦ absurd (l.1 (sym (link_is s j h ∙ link-out d b j out) ∙ l.0))
         ],
         λ z. l.1 (sym (index_in-place_in b j) ∙ ap (index_in b) z ∙ index_in-place_in b i),
       )
 
   abbrev own : Place → Place → ℕ
-  own p q = cond {A = ℕ} (is_some (code_at d q) && is_place p q) 1 0
+  own p q = counted d (is_place p q) q
 
   -- The flow path of one data cell q. T k says that the first k moves of the path are allowed, R p
   -- that allowed moves reach p. `over` is 1 if an allowed move enters cell i from outside the
   -- bounds, else 0.
-  module _ (q : Place) (is : IsCoded d q) (i : ℕ) (h : i < length links) (R : Place → Bool)
+  module _ {q : Place} (is : IsCoded d q) (i : ℕ) (h : i < length links) (R : Place → Bool)
       (T : ℕ → Type 0) (start : T 0)
       (from : (p : Place) → R p ≡ true → (k : ℕ) × (follow d q k ≡ p) × T k)
       (at : (p : Place) (k : ℕ) → follow d q k ≡ p → T k → R p ≡ true)
@@ -54,50 +54,47 @@ module _ (d : Directed) (e : IsEnding d) (t : Cutting) (tile : ℕ) (b : Bounds)
       (on : (a : ℕ) → follow d q (suc a) ≡ place_in b i → T (suc a) →
       (IsInBounds b (follow d q a) → ⊥) → over ≡ 1) where
     abbrev term : ℕ → ℕ
-    term j = cond {A =
-        ℕ} (leads_to links j i) (cond {A = ℕ} (is_some (code_at d q) && R (place_in b j)) 1 0) 0
+    term j = upstream links j i (counted d (R (place_in b j)) q)
 
     term_off : (j : ℕ) → j < length links → ((a : ℕ) → follow d q (suc a) ≡ place_in b i →
         follow d q a ≢ place_in b i → T (suc a) → follow d q a ≡ place_in b j → ⊥) → term j ≡ 0
     term_off j l none = elim (cases_Bool (leads_to links j i)) [
       | inr n ↦ cond-false {A = ℕ} _ _ 0 n
       | inl y ↦ cond-true {A = ℕ} _ _ 0 y
-          ∙ counted_off d q (R (place_in b j)) (false_from_ne_true _ (λ r.
+          ∙ counted_off d q (false_from_ne_true _ (λ r.
           (let m = from (place_in b j) r in
           let x = leads_place j i l y in
           let goes : follow d q (suc m.0) ≡ place_in b i = ap (next d) m.1 ∙ x.0 in
           none m.0 goes (λ z. x.1 (sym m.1 ∙ z))
           (more m.0 m.2
-          (subst (λ (p : Place). IsInBounds b p) (sym m.1) (in_place d t tile b links s j l)) (subst
-          (λ (p : Place). IsInBounds b p) (sym goes) (in_place d t tile b links s i h))) m.1)))
+          (rw m.1 (in_place s j l)) (rw goes (in_place s i h))) m.1)))
     ]
 
-    pub parts : cond {A = ℕ} (is_some (code_at d q) && R (place_in b i)) 1 0 ≡ own (place_in b i) q
+    pub parts : counted d (R (place_in b i)) q ≡ own (place_in b i) q
         + over + sum_below term (length links)
     parts = elim (cases_Bool (R (place_in b i))) [
       | inr n ↦ omega (
         arith,
-        counted_off d q (R (place_in b i)) n,
-        counted_off d q (is_place (place_in b i) q) (false_from_ne_true _ (λ y.
+        counted_off d q n,
+        counted_off d q (false_from_ne_true _ (λ y.
             false≢true (sym n ∙ at (place_in b i) 0 (sym (place_is (place_in b i) q y)) start))),
         off (λ a goes far _. false≢true (sym n ∙ at (place_in b i) (suc a) goes far)),
         sum_below-none term (length links) (λ j l. term_off j l
             (λ a goes _ far _. false≢true (sym n ∙ at (place_in b i) (suc a) goes far))),
       )
       | inl y ↦ (let r = from (place_in b i) y in
-          elim (stays_or_enters d e (λ z. z ≡ place_in b i)
+          elim (stays_or_enters e (λ z. z ≡ place_in b i)
           (λ z. cases_place z (place_in b i)) q r.0 r.1) [
             | inl way ↦ (let here : (a : ℕ) → follow d q (suc a) ≡ place_in b i →
                 follow d q a ≢ place_in b i → ⊥ =
-                λ a goes apart. never_enters d e (λ z. z ≡ place_in b i) q is r.0 (suc a) (r.1
-                ∙ sym goes) way (one_move d e q (place_in b i) a goes apart) in
+                λ a goes apart. never_enters e (λ z. z ≡ place_in b i) is r.0 (r.1
+                ∙ sym goes) way (one_move e q (place_in b i) a goes apart) in
                 omega (
                   arith,
-                  counted_on d q (R (place_in b i)) is y,
-                  counted_on d q (is_place (place_in b i) q) is
+                  counted_on is y,
+                  counted_on is
                       (is_place_from (place_in b i) q (sym (way 0 (omega arith)))),
-                  off (λ a goes far out. here a goes (λ z. out (subst
-                      (λ (p : Place). IsInBounds b p) (sym z) (in_place d t tile b links s i h)))),
+                  off (λ a goes far out. here a goes (λ z. out (rw z (in_place s i h)))),
                   sum_below-none term (length links) (λ j l.
                       term_off j l (λ a goes apart _ _. here a goes apart)),
                 ))
@@ -106,8 +103,8 @@ module _ (d : Directed) (e : IsEnding d) (t : Cutting) (tile : ℕ) (b : Bounds)
     ]
       where
         arrives : R (place_in b i) ≡ true → (k : ℕ) → follow d q k ≡ place_in b i → T k →
-            EntersRegion d e (λ z. z ≡ place_in b i) q k →
-            cond {A = ℕ} (is_some (code_at d q) && R (place_in b i)) 1 0 ≡ own (place_in b i) q
+            EntersRegion e (λ z. z ≡ place_in b i) q k →
+            counted d (R (place_in b i)) q ≡ own (place_in b i) q
             + over + sum_below term (length links)
         arrives y k way far c =
             let goes : follow d q (suc c.from) ≡ place_in b i =
@@ -115,22 +112,22 @@ module _ (d : Directed) (e : IsEnding d) (t : Cutting) (tile : ℕ) (b : Bounds)
             let there : T (suc c.from) = less k (suc c.from) (omega (arith, c.before)) far in
             let same : (a : ℕ) → follow d q (suc a) ≡ place_in b i → follow d q a ≢ place_in b i →
             a ≡ c.from =
-            λ a moves apart. enters_from_one d e (λ z. z ≡ place_in b i) q is (suc a) k (moves
-            ∙ sym way) (one_move d e q (place_in b i) a moves apart) c in
+            λ a moves apart. enters_from_one e (λ z. z ≡ place_in b i) is (moves
+            ∙ sym way) (one_move e q (place_in b i) a moves apart) c in
             let not_own : is_place (place_in b i) q ≡ false =
-            false_from_ne_true _ (λ z. never_enters d e (λ z. z ≡ place_in b i) q is 0 k
+            false_from_ne_true _ (λ z. never_enters e (λ z. z ≡ place_in b i) is 0
             (sym (place_is (place_in b i) q z) ∙ sym way)
             (λ l le. (let w : l ≡ 0 = omega arith in ap (follow d q) w
             ∙ sym (place_is (place_in b i) q z))) c) in
             elim (cases_bounds b (follow d q c.from)) [
               | inr out ↦ omega (
                 arith,
-                counted_on d q (R (place_in b i)) is y,
-                counted_off d q _ not_own,
+                counted_on is y,
+                counted_off d q not_own,
                 on c.from goes there out,
                 sum_below-none term (length links) (λ j l. term_off j l (λ a moves apart _ at_j.
                     out (subst (λ (p : Place). IsInBounds b p) (sym at_j
-                    ∙ ap (follow d q) (same a moves apart)) (in_place d t tile b links s j l)))),
+                    ∙ ap (follow d q) (same a moves apart)) (in_place s j l)))),
               )
               | inl within ↦
                   let below : index_in b (follow d q c.from) < length links =
@@ -140,25 +137,22 @@ module _ (d : Directed) (e : IsEnding d) (t : Cutting) (tile : ℕ) (b : Bounds)
                   let to : next d (place_in b (index_in b (follow d q c.from))) ≡ place_in b i =
                   ap (next d) back ∙ goes in
                   let link : next_node links (index_in b (follow d q c.from)) ≡ i =
-                  link_is d t tile b links s (index_in b (follow d q c.from)) below
+                  link_is s (index_in b (follow d q c.from)) below
                   ∙ link-in d b (index_in b (follow d q c.from))
-                  (subst (λ (p : Place). IsInBounds b p) (sym to) (in_place d t tile b links s i h))
+                  (rw to (in_place s i h))
                   ∙ ap (index_in b) to ∙ index_in-place_in b i in
                   let leads : leads_to links (index_in b (follow d q c.from)) i ≡ true =
-                  leads_from links _ i link (λ z. c.outside (sym back ∙ ap (place_in b) z)) in
+                  leads_from links _ link (λ z. c.outside (sym back ∙ ap (place_in b) z)) in
                   omega (
                     arith,
-                    counted_on d q (R (place_in b i)) is y,
-                    counted_off d q _ not_own,
-                    off (λ a moves _ out. out (subst (λ n. IsInBounds b (follow d q n))
-                        (sym (same a moves (λ z. out (subst (λ (p : Place). IsInBounds b p) (sym z)
-                        (in_place d t tile b links s i h))))) within)),
+                    counted_on is y,
+                    counted_off d q not_own,
+                    off (λ a moves _ out. out (rw (same a moves (λ z. out (rw z (in_place s i h)))) within)),
                     one_term term (length links) (index_in b (follow d q c.from)) below
                         (λ n l ne. term_off n l (λ a moves apart _ at_n. ne (sym (index_in-place_in
                         b n) ∙ ap (index_in b) (sym at_n ∙ ap (follow d q) (same a moves apart))))),
-                    cond-true {A = ℕ} _ (cond {A = ℕ} (is_some (code_at d q)
-                        && R (place_in b (index_in b (follow d q c.from)))) 1 0) 0 leads,
-                    counted_on d q (R (place_in b (index_in b (follow d q c.from)))) is
+                    cond-true {A = ℕ} _ (counted d (R (place_in b (index_in b (follow d q c.from)))) q) 0 leads,
+                    counted_on is
                         (at _ c.from (sym back) (less k c.from (omega (arith, c.before)) far)),
                   )
             ]
@@ -167,78 +161,40 @@ module _ (d : Directed) (e : IsEnding d) (t : Cutting) (tile : ℕ) (b : Bounds)
   -- q the term at i is `own` plus `over` plus the terms at i's donors, the other cells linked to i.
   -- If `over` is 0 at NODATA, sums over all cells q obey this equation, with i's weight for `own`.
   tallied : (R : Place → Place → Bool) (over : Place → Place → ℕ) (i : ℕ) → i < length links →
-      ((q : Place) → IsCoded d q → cond {A = ℕ} (is_some (code_at d q) && R (place_in b i) q) 1 0
-      ≡ own (place_in b i) q + over (place_in b i) q + sum_below (λ j. cond {A = ℕ} (leads_to links
-      j i) (cond {A = ℕ} (is_some (code_at d q) && R (place_in b j) q) 1 0) 0) (length links)) →
+      ((q : Place) → IsCoded d q → counted d (R (place_in b i) q) q
+      ≡ own (place_in b i) q + over (place_in b i) q + sum_below
+      (λ j. upstream links j i (counted d (R (place_in b j) q) q)) (length links)) →
       ((q : Place) → is_some (code_at d q) ≡ false → over (place_in b i) q ≡ 0) →
-      sum_below (λ c. cond {A = ℕ} (is_some (code_at d (cell d c)) && R (place_in b i) (cell d c))
-      1 0) (d.rows * d.cols)
+      sum_below (λ c. counted d (R (place_in b i) (cell d c)) (cell d c)) (d.rows * d.cols)
       ≡ weight_in d b i + sum_below (λ c. over (place_in b i) (cell d c)) (d.rows * d.cols)
-      + upstream_sum links (λ j. sum_below (λ c. cond {A = ℕ}
-      (is_some (code_at d (cell d c)) && R (place_in b j) (cell d c)) 1 0) (d.rows * d.cols)) i
-  tallied R over i h each none =
-      omega (
-        arith,
-        sum_below-same (λ c.
-            cond {A = ℕ} (is_some (code_at d (cell d c)) && R (place_in b i) (cell d c)) 1 0)
-            (λ c. own (place_in b i) (cell d c) + over (place_in b i) (cell d c)
-            + sum_below (λ j. cond {A = ℕ} (leads_to links j i) (cond {A = ℕ} (is_some (code_at d
-            (cell d c)) && R (place_in b j) (cell d c)) 1 0) 0) (length links)) (d.rows * d.cols)
-            (λ c _. of_cell (cell d c)),
-        sum_below-add (λ c. own (place_in b i) (cell d c) + over (place_in b i) (cell d c))
-            (λ c. sum_below (λ j. cond {A = ℕ} (leads_to links j i)
-            (cond {A = ℕ} (is_some (code_at d (cell d c)) && R (place_in b j) (cell d c)) 1 0) 0)
-            (length links)) (d.rows * d.cols),
-        sum_below-add (λ c. own (place_in b i) (cell d c)) (λ c. over (place_in b i) (cell d c))
-            (d.rows * d.cols),
-        own_sum,
-        exchange (λ c j. cond {A = ℕ} (leads_to links j i) (cond {A = ℕ} (is_some (code_at d
-            (cell d c)) && R (place_in b j) (cell d c)) 1 0) 0) (d.rows * d.cols) (length links),
-        sum_below-same (λ j. sum_below (λ c. cond {A = ℕ} (leads_to links j i)
-            (cond {A = ℕ} (is_some (code_at d (cell d c)) && R (place_in b j) (cell d c)) 1 0) 0)
-            (d.rows * d.cols))
-            (λ j. cond {A = ℕ} (leads_to links j i) (sum_below (λ c. cond {A = ℕ} (is_some (code_at
-            d (cell d c)) && R (place_in b j) (cell d c)) 1 0) (d.rows * d.cols)) 0) (length links)
-            (λ j _. sym (cond-sum (leads_to links j i) (λ c. cond {A = ℕ} (is_some
-            (code_at d (cell d c)) && R (place_in b j) (cell d c)) 1 0) (d.rows * d.cols))),
-      )
+      + upstream_sum links (λ j. sum_below (λ c. counted d (R (place_in b j) (cell d c)) (cell d c))
+      (d.rows * d.cols)) i
+  tallied R over i h each none = omega (
+    arith,
+    counts_upstream d links i (λ j. R (place_in b j)) (λ q. own (place_in b i) q + over (place_in b i) q) each
+        (λ q n. omega (arith, counted_none d q (is_place (place_in b i) q) n, none q n)),
+    sum_below-add (λ c. own (place_in b i) (cell d c)) (λ c. over (place_in b i) (cell d c)) (d.rows * d.cols),
+    own_sum,
+  )
     where
-      of_cell : (q : Place) → cond {A = ℕ} (is_some (code_at d q) && R (place_in b i) q) 1 0
-          ≡ own (place_in b i) q
-          + over (place_in b i) q + sum_below (λ j. cond {A = ℕ} (leads_to links j i)
-          (cond {A = ℕ} (is_some (code_at d q) && R (place_in b j) q) 1 0) 0) (length links)
-      of_cell q = elim (cases_Bool (is_some (code_at d q))) [
-        | inl y ↦ each q (coded_from_some d q y)
-        | inr n ↦ omega (
-          arith,
-          counted_none d q (R (place_in b i) q) n,
-          counted_none d q (is_place (place_in b i) q) n,
-          none q n,
-          sum_below-none (λ j. cond {A = ℕ} (leads_to links j i)
-              (cond {A = ℕ} (is_some (code_at d q) && R (place_in b j) q) 1 0) 0) (length links)
-              (λ j l. ap (λ x. cond {A = ℕ} (leads_to links j i) x 0)
-              (counted_none d q (R (place_in b j) q) n) ∙ cond_same (leads_to links j i)),
-        )
-      ]
-
       own_sum : sum_below (λ c. own (place_in b i) (cell d c)) (d.rows * d.cols) ≡ weight_in d b i
       own_sum =
-          let inside : IsInBounds (whole_bounds d.cols d.rows) (place_in b i) =
-          (let x = in_place d t tile b links s i h in (
+          let inside : IsInBounds (grid_of d) (place_in b i) =
+          (let x = in_place s i h in (
             omega arith,
             omega (arith, x, s.inside.rows_inside, s.rows),
             omega arith,
             omega (arith, x, s.inside.cols_inside, s.cols),
           )) in
           one_term (λ c. own (place_in b i) (cell d c))
-          (d.rows * d.cols) (index_in (whole_bounds d.cols d.rows) (place_in b i))
-          (index_in_below (whole_bounds d.cols d.rows) (place_in b i) inside)
-          (λ j l ne. counted_off d (cell d j) _ (false_from_ne_true _ (λ y.
-          ne (sym (index_in-place_in (whole_bounds d.cols d.rows) j) ∙ ap
-          (index_in (whole_bounds d.cols d.rows)) (sym (place_is (place_in b i) (cell d j) y))))))
+          (d.rows * d.cols) (index_in (grid_of d) (place_in b i))
+          (index_in_below (grid_of d) (place_in b i) inside)
+          (λ j l ne. counted_off d (cell d j) (false_from_ne_true _ (λ y.
+          ne (sym (index_in-place_in (grid_of d) j) ∙ ap
+          (index_in (grid_of d)) (sym (place_is (place_in b i) (cell d j) y))))))
           ∙ ap (own (place_in b i))
-          (place_in-index_in (whole_bounds d.cols d.rows) (place_in b i) inside)
-          ∙ ap (λ x. cond {A = ℕ} x 1 0) (and_on (is_some (code_at d (place_in b i))) _
+          (place_in-index_in (grid_of d) (place_in b i) inside)
+          ∙ ap (λ x. cond {A = ℕ} x 1 0) (and_on (is_some (code_at d (place_in b i)))
           (is_place_from (place_in b i) (place_in b i) refl))
 
   -- The weights of a tile's cells: 1 for each data cell, plus the inflow.
@@ -255,18 +211,18 @@ module _ (d : Directed) (e : IsEnding d) (t : Cutting) (tile : ℕ) (b : Bounds)
       weighed i h,
       inflow_sum d t (place_in b i),
       tallied (drains_through d) (entered d t) i h (λ q is.
-          parts q is i h (λ p. drains_through d p q) (λ k. Unit {0}) tt
-          (λ p y. (let m = drains_from d e q p y in (m.0, m.1, tt))) (λ p k way _.
-          drains_at d e q p is k way) (λ k m le _. tt) (λ k _ x y. tt)
+          parts is i h (λ p. drains_through d p q) (λ k. Unit {0}) tt
+          (λ p y. (let m = drains_from e q p y in (m.0, m.1, tt))) (λ p k way _.
+          drains_at e is k way) (λ k m le _. tt) (λ k _ x y. tt)
           (entered d t (place_in b i) q)
-          (λ none. counted_off d q _ (false_from_ne_true _ (λ y.
-          (let x = enters_from d e t (place_in b i) q y in
-          none x.0 x.1 tt (λ z. x.2 (tile_is d t tile b links s _ z
-          ∙ sym (tile_is d t tile b links s _ (in_place d t tile b links s i h))))))))
-          (λ a goes _ out. counted_on d q _ is (enters_at d e t (place_in b i) q is a goes
+          (λ none. counted_off d q (false_from_ne_true _ (λ y.
+          (let x = enters_from e t (place_in b i) q y in
+          none x.0 x.1 tt (λ z. x.2 (tile_is s _ z
+          ∙ sym (tile_is s _ (in_place s i h))))))))
+          (λ a goes _ out. counted_on is (enters_at e t (place_in b i) q is a goes
           (λ same. out ((s.places (follow d q a)).0 (
-            coded_within d t tile b links s (follow d q a) (coded_along d s.ends q is a),
-            same ∙ tile_is d t tile b links s _ (in_place d t tile b links s i h),
+            coded_within s (coded_along s.ends is a),
+            same ∙ tile_is s _ (in_place s i h),
           ))))))
           (λ q n. counted_none d q _ n),
     );
@@ -282,19 +238,19 @@ module _ (d : Directed) (e : IsEnding d) (t : Cutting) (tile : ℕ) (b : Bounds)
       weighed.each i (omega (arith, h, s.made.size)),
       sum_below-none (λ c. 0) (d.rows * d.cols) (λ c _. refl),
       tallied (reaches_inside d t) (λ p q. 0) i h (λ q is.
-          parts q is i h (λ p. reaches_inside d t p q) (λ k. stays d t q k ≡ true) (begins q)
+          parts is i h (λ p. reaches_inside d t p q) (λ k. stays d t q k ≡ true) (begins q)
           (λ p y.
           (let r = some_in_range (λ k. is_place p (follow d q k) && stays d t q k) (moves d) y in
           let w = and_parts _ _ r.2 in (r.0, sym (place_is p (follow d q r.0) w.0), w.1)))
-          (λ p k way still. (let m = reached_early d e q p is k way in
+          (λ p k way still. (let m = reached_early e is k way in
           any_in_range (λ k. is_place p (follow d q k) && stays d t q k) (moves d) m.0 m.1
           (and_from _ _ (is_place_from p (follow d q m.0) (sym m.3)) (sooner q k m.0 m.2 still))))
           (sooner q) (later q) 0 (λ _. refl)
           (λ a goes still out. absurd (out ((s.places (follow d q a)).0 (
-            coded_within d t tile b links s (follow d q a) (coded_along d s.ends q is a),
+            coded_within s (coded_along s.ends is a),
             still_at d t q (suc a) still a (omega arith) ∙ sym
                 (still_at d t q (suc a) still (suc a) (omega arith)) ∙ ap (tile_of_place t) goes
-                ∙ tile_is d t tile b links s _ (in_place d t tile b links s i h),
+                ∙ tile_is s _ (in_place s i h),
           )))))
           (λ q n. refl),
     );
@@ -311,7 +267,7 @@ module _ (d : Directed) (e : IsEnding d) (t : Cutting) (tile : ℕ) (b : Bounds)
           IsInBounds b (follow d q (suc k)) → stays d t q (suc k) ≡ true
       later q k still here next_here = still_from d t q (suc k) (λ l le. elim (cases_eq l (suc k)) [
         | inl z ↦ ap (λ n. tile_of_place t (follow d q n)) z
-            ∙ tile_is d t tile b links s _ next_here ∙ sym (tile_is d t tile b links s _ here)
+            ∙ tile_is s _ next_here ∙ sym (tile_is s _ here)
             ∙ still_at d t q k still k (omega arith)
         | inr ne ↦ still_at d t q k still l (omega arith)
       ])

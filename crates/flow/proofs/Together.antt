@@ -12,20 +12,20 @@ use Rattle.terrain.specs.Neighbours.{entry_at, IsDataCell}
 use Rattle.terrain.specs.Raster.{IsTerrain}
 use Rattle.terrain.specs.declared.place.Place.{Place}
 use Rattle.tile_jobs.specs.Results.{AreResults}
-use Rattle.flow.specs.Whole.{make_directed, IsGridFlow}
+use Rattle.flow.specs.Whole.{make_directed, IsGridFlow, directed_on}
 use Rattle.flow.specs.Counts.{IsMapOf, IsValueAt}
 use Rattle.flow.proofs.Coded.{IsCoded, coded_from_some}
 use Rattle.flow.proofs.Reaching.{IsEnding}
 
 pub directed_same : (d : Drained) (t : Cutting) (codes : List (Option ℕ)) → Cuts t d.terrain →
-    codes ≡ d.codes → make_directed t.cols t.rows codes ≡ directed_of d
+    codes ≡ d.codes → directed_on t codes ≡ directed_of d
 directed_same d t codes cuts e =
     ap (λ n. make_directed n t.rows codes) cuts.0 ∙ ap (λ n. make_directed d.terrain.cols n codes)
     cuts.1 ∙ ap (make_directed d.terrain.cols d.terrain.rows) e
 
-pub grid_flow : (d : Drained) (t : Cutting) (codes : List (Option ℕ)) → IsDraining d →
+pub grid_flow : {d : Drained} (t : Cutting) {codes : List (Option ℕ)} → IsDraining d →
     Cuts t d.terrain → codes ≡ d.codes → IsGridFlow t.cols t.rows codes
-grid_flow d t codes draining cuts e = record {
+grid_flow {d} t {codes} draining cuts e = record {
   size = ap length e ∙ draining.codes_size
       ∙ sym (ap (λ n. n * t.rows) cuts.0 ∙ ap (λ n. d.terrain.cols * n) cuts.1);
   ends = subst (λ (x : Directed). AllFlowEnds x) (sym (directed_same d t codes cuts e))
@@ -47,23 +47,23 @@ drained_coded d draining p is = coded_from_some (directed_of d) p (draining.same
 
 -- Let P k hold of the result of each job k, of n jobs. If Q holds of every list of n entries where
 -- P k holds of entry k, Q holds of the list that the jobs return.
-pub jobs_gave : {X E : Type 0} (P : ℕ → X → Type 0) (r : Result (Vec X Global) E) (n m : ℕ)
+pub jobs_gave : {X E : Type 0} (P : ℕ → X → Type 0) (r : Result (Vec X Global) E) {n m : ℕ}
     (Q : List X → Type 0) → n ≡ m →
     ((outs : List X) → length outs ≡ m → ((k : ℕ) (x : X) → slice_get outs k ≡ Some x → P k x) →
     Q outs) →
     IfOk r (λ v. vec_len v ≡ n) → IfOk r (λ v. AreResults P n v.items) → IfOk r (λ v. Q v.items)
-jobs_gave P (Ok v) n m Q same made len given = made v.items (omega (arith, v.ok.0, len, same))
-    (λ k x there. subst (P k) (get_or_from_slice_get v.items k x x there)
-    (given k x (omega (arith, v.ok.0, len, slice_get_within v.items k x there))))
-jobs_gave P (Err e) n m Q same made len given = len
+jobs_gave P (Ok v) Q same made len given = made v.items (omega (arith, v.ok.0, len, same))
+    (λ k x there. rw (get_or_from_slice_get v.items k x x there) at (given k x
+    (omega (arith, v.ok.0, len, slice_get_within v.items k x there))))
+jobs_gave P (Err e) Q same made len given = len
 
 -- A list with each data cell's value at its place, and `None` at NODATA, is the map of these values
 -- for the drained terrain.
 pub whole_map : (d : Drained) (t : Cutting) (codes : List (Option ℕ)) →
     Cuts t d.terrain → codes ≡ d.codes → (value : Directed → Place → ℕ) (whole : List (Option ℕ)) →
     length whole ≡ t.cols * t.rows →
-    ((p : Place) → IsWithin t p → IsValueAt (make_directed t.cols t.rows codes)
-    (value (make_directed t.cols t.rows codes)) p (entry_at t.cols t.rows whole p)) →
+    ((p : Place) → IsWithin t p → IsValueAt (directed_on t codes)
+    (value (directed_on t codes)) p (entry_at t.cols t.rows whole p)) →
     IsMapOf (directed_of d) (value (directed_of d)) whole
 whole_map d t codes cuts same value whole size each = subst (λ (x : Directed). IsMapOf x
     (value x) whole) (directed_same d t codes cuts same) (record { size = size; each = each })

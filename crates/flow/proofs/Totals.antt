@@ -6,14 +6,18 @@ use Rattle.flow.specs.Streams.{AreStreams, total_within, total, next_node, node_
 use Rattle.tile_jobs.proofs.Sums.{sum_below-le, sum_below-same, sum_below-add}
 use Rattle.flow.proofs.Ending.{IsStop, early_end}
 
+-- n if node j is a donor of node i, that is another node linked to i; else 0.
+abbrev pub upstream : List ℕ → ℕ → ℕ → ℕ → ℕ
+upstream links j i n = cond {A = ℕ} (leads_to links j i) n 0
+
 pub leads_parts : (links : List ℕ) (j i : ℕ) → leads_to links j i ≡ true → (next_node links j ≡ i)
     × (j ≢ i)
 leads_parts links j i y = let w = and_parts _ _ y in
     (eqb-true _ _ w.0, λ e. false≢true (sym (not-true _ w.1) ∙ eq-eqb _ _ e))
 
-pub leads_from : (links : List ℕ) (j i : ℕ) → next_node links j ≡ i → j ≢ i →
+pub leads_from : (links : List ℕ) (j : ℕ) {i : ℕ} → next_node links j ≡ i → j ≢ i →
     leads_to links j i ≡ true
-leads_from links j i e ne = and_from _ _ (eq-eqb _ _ e) (not_from_false _ (ne_eqb _ _ ne))
+leads_from links j e ne = and_from _ _ (eq-eqb _ _ e) (not_from_false _ (ne_eqb _ _ ne))
 
 pub leads_end : (links : List ℕ) (node i : ℕ) → next_node links node ≡ node →
     leads_to links node i ≡ false
@@ -23,7 +27,7 @@ leads_end links node i e =
 pub leads_self : (links : List ℕ) (i : ℕ) → leads_to links i i ≡ false
 leads_self links i = and_right _ (not (eqb i i)) (not_from_true _ (eq-eqb i i refl))
 
-module _ (links : List ℕ)
+module _ {links : List ℕ}
     (streams : AreStreams links) (P : ℕ → ℕ → Type 0) (step : (k i : ℕ) → i < length links →
     ((j : ℕ) → j < length links → leads_to links j i ≡ true → P k j) → P (suc k) i) where
   -- k moves along links from `from` lead to node i, and none of them begins at an end.
@@ -44,7 +48,7 @@ module _ (links : List ℕ)
         leads = there;
         goes = λ m lt stop. elim (cases_eq m k) [
           | inl e ↦
-              l.1 (sym c.leads ∙ sym (subst (λ (n : ℕ). IsStop links c.from n) e stop) ∙ there)
+              l.1 (sym c.leads ∙ sym (rw e at stop) ∙ there)
           | inr ne ↦ c.goes m (omega arith) stop
         ];
       }
@@ -63,8 +67,8 @@ module _ (links : List ℕ)
 pub sums_le : (links : List ℕ) (i : ℕ) (f g : ℕ → ℕ) → ((j : ℕ) → j < length links →
     leads_to links j i ≡ true → f j ≤ g j) → upstream_sum links f i ≤ upstream_sum links g i
 sums_le links i f g le =
-    sum_below-le (λ j. cond {A = ℕ} (leads_to links j i) (f j) 0) (λ j.
-    cond {A = ℕ} (leads_to links j i) (g j) 0) (length links)
+    sum_below-le (λ j. upstream links j i (f j)) (λ j.
+    upstream links j i (g j)) (length links)
     (λ j l. elim (cases_Bool (leads_to links j i)) [
       | inl on ↦
           omega (arith, cond-true {A = ℕ} _ (f j) 0 on, cond-true {A = ℕ} _ (g j) 0 on, le j l on)
@@ -85,7 +89,7 @@ pub totals_le : (links : List ℕ) → AreStreams links → (w f g : ℕ → ℕ
     ((i : ℕ) → i < length links → f i ≤ w i + upstream_sum links f i) →
     ((i : ℕ) → i < length links → w i + upstream_sum links g i ≤ g i) → (i : ℕ) → i < length links →
     f i ≤ g i
-totals_le links streams w f g low high = each_downstream links streams (λ _ i. f i ≤ g i)
+totals_le links streams w f g low high = each_downstream streams (λ _ i. f i ≤ g i)
     (λ _ i h before. omega (arith, low i h, high i h, sums_le links i f g before))
 
 -- f of each node is the node's weight plus the sum of f over its donors.
@@ -95,7 +99,7 @@ pub record AreTotals (links weights : List ℕ) (f : ℕ → ℕ) : Type 0 where
 pub totals_are : (links weights : List ℕ) → AreStreams links →
     AreTotals links weights (total links weights)
 totals_are links weights streams = record {
-  each = each_downstream links streams (λ k i. total_within links weights k i
+  each = each_downstream streams (λ k i. total_within links weights k i
       ≡ total_within links weights (suc k) i)
       (λ k i h before. omega (
         arith,
@@ -104,9 +108,9 @@ totals_are links weights streams = record {
       ));
 }
 
-pub total_is : (links weights : List ℕ) (f : ℕ → ℕ) → AreStreams links → AreTotals links weights f →
+pub total_is : {links weights : List ℕ} {f : ℕ → ℕ} → AreStreams links → AreTotals links weights f →
     (i : ℕ) → i < length links → total links weights i ≡ f i
-total_is links weights f streams are i h = omega (
+total_is {links} {weights} {f} streams are i h = omega (
   arith,
   totals_le links streams (λ j.
       get_or weights j 0) f (total links weights) (λ j l. omega (arith, are.each j l)) (λ j l.
@@ -125,17 +129,17 @@ pub totals_add : (links v w both : List ℕ) → AreStreams links →
     ((i : ℕ) → i < length links → get_or both i 0 ≡ get_or v i 0 + get_or w i 0) →
     (i : ℕ) → i < length links → total links both i ≡ total links v i + total links w i
 totals_add links v w both streams sum =
-    total_is links both (λ i. total links v i + total links w i) streams (record {
+    total_is streams (record {
       each = λ i h. omega (
         arith,
         sum i h,
         (totals_are links v streams).each i h,
         (totals_are links w streams).each i h,
-        sum_below-same (λ j. cond {A = ℕ} (leads_to links j i) (total links v j + total links w j) 0)
-            (λ j. cond {A = ℕ} (leads_to links j i) (total links v j) 0
-            + cond {A = ℕ} (leads_to links j i) (total links w j) 0) (length links)
+        sum_below-same (λ j. upstream links j i (total links v j + total links w j))
+            (λ j. upstream links j i (total links v j)
+            + upstream links j i (total links w j)) (length links)
             (λ j l. cond_add (leads_to links j i) (total links v j) (total links w j)),
-        sum_below-add (λ j. cond {A = ℕ} (leads_to links j i) (total links v j) 0)
-            (λ j. cond {A = ℕ} (leads_to links j i) (total links w j) 0) (length links),
+        sum_below-add (λ j. upstream links j i (total links v j))
+            (λ j. upstream links j i (total links w j)) (length links),
       );
     })

@@ -3,7 +3,7 @@ ghost use Rattle.std.specs.Prelude.{IfOk};
 ghost use Rattle.tile_jobs.specs.Fault.{RefusesWorkers};
 ghost use Rattle.flow.specs.TileFlow.{AreTileCounts};
 ghost use Rattle.flow.specs.RimGraph.{AreFlowsOf};
-ghost use Rattle.flow.specs.Whole.{IsGridFlow, make_directed};
+ghost use Rattle.flow.specs.Whole.{IsGridFlow, directed_on};
 
 use crate::tile::{TileFlow, tile_flow};
 use crate::tile_exits::{TileExits, tile_exits};
@@ -28,12 +28,12 @@ impl<'a> Work for FlowTiles<'a> {
 
     ghost use Rattle.tiles.specs.Cutting.{tile_count};
     ghost use Rattle.flow.specs.TileFlow.{IsTileFlow};
-    ghost use Rattle.flow.specs.Whole.{make_directed};
+    ghost use Rattle.flow.specs.Whole.{directed_on};
 
     ghost most = { λ w. tile_count w.tiling.now };
 
     ghost gives = { λ w job out. IsTileFlow
-        (make_directed w.tiling.now.cols w.tiling.now.rows w.codes.now) w.tiling.now job out };
+        (directed_on w.tiling.now w.codes.now) w.tiling.now job out };
 
     fn run(&self, alloc: Global, job: u32) -> Result<TileFlow, JobFault> {
         let view = self.tiling.view(self.codes, job);
@@ -57,12 +57,12 @@ impl<'a> Work for ExitTiles<'a> {
 
     ghost use Rattle.tiles.specs.Cutting.{tile_count};
     ghost use Rattle.flow.specs.TileFlow.{IsTileExits};
-    ghost use Rattle.flow.specs.Whole.{make_directed};
+    ghost use Rattle.flow.specs.Whole.{directed_on};
 
     ghost most = { λ w. tile_count w.tiling.now };
 
     ghost gives = { λ w job out. IsTileExits
-        (make_directed w.tiling.now.cols w.tiling.now.rows w.codes.now) w.tiling.now job out };
+        (directed_on w.tiling.now w.codes.now) w.tiling.now job out };
 
     fn run(&self, alloc: Global, job: u32) -> Result<TileExits, JobFault> {
         let view = self.tiling.view(self.codes, job);
@@ -78,9 +78,9 @@ pub(crate) fn flow_tiles<R: Threads + Wait + Sync, G: Gate + Sync>(
 ) -> Result<Vec<TileFlow>, JobFault>
     requires grid { IsGridFlow tiling.now.cols tiling.now.rows codes.now }
     ensures flows { IfOk result (λ v. AreFlowsOf
-        (make_directed tiling.now.cols tiling.now.rows codes.now) tiling.now v.items) }
+        (directed_on tiling.now codes.now) tiling.now v.items) }
     ensures counts { IfOk result (λ v. AreTileCounts
-        (make_directed tiling.now.cols tiling.now.rows codes.now) tiling.now v.items) }
+        (directed_on tiling.now codes.now) tiling.now v.items) }
     ensures workers { RefusesWorkers runner.now.workers result }
 {
     let work = FlowTiles { codes, tiling };
@@ -95,7 +95,7 @@ pub(crate) fn exit_tiles<R: Threads + Wait + Sync, G: Gate + Sync>(
 ) -> Result<Vec<TileExits>, JobFault>
     requires grid { IsGridFlow tiling.now.cols tiling.now.rows codes.now }
     ensures flows { IfOk result (λ v. AreFlowsOf
-        (make_directed tiling.now.cols tiling.now.rows codes.now) tiling.now v.items) }
+        (directed_on tiling.now codes.now) tiling.now v.items) }
     ensures workers { RefusesWorkers runner.now.workers result }
 {
     let work = ExitTiles { codes, tiling };

@@ -4,7 +4,7 @@ use Rattle.std.proofs.lemmas.Result.{IfOk-weaker}
 use Rattle.drainage.specs.Drained.{directed_of}
 use Rattle.drainage.specs.Following.{Directed}
 use Rattle.flow.specs.Counts.{AreBasins, IsMapOf}
-use Rattle.flow.specs.Whole.{make_directed}
+use Rattle.flow.specs.Whole.{make_directed, directed_on}
 use Rattle.flow.specs.Numbering.{end_number, outlet_numbers}
 use Rattle.flow.proofs.Together.{directed_same, grid_flow}
 use Rattle.flow.proofs.Numbered.{outlet_number_few}
@@ -15,19 +15,19 @@ of_codes-requires g c =
     let t = c.args.tiling.now in
     let most : t.cols * t.rows ≤ 4096 * 4096 =
     mul-le-mul c.cols.ensures.lawful.few_cols c.cols.ensures.lawful.few_rows in
-    let flow = grid_flow c.args.d.now t c.codes-codes.result.now c.codes-codes.ensures.draining
+    let flow = grid_flow t c.codes-codes.ensures.draining
     c.requires c.codes-codes.ensures.value in
     omega (arith, most, flow.size)
 
 pub number_cells-requires-clause-grid : goal.number_cells-requires-clause-grid
 number_cells-requires-clause-grid g c κs within =
-    grid_flow c.args.d.now c.args.tiling.now c.codes-codes.result.now c.codes-codes.ensures.draining
+    grid_flow c.args.tiling.now c.codes-codes.ensures.draining
     c.requires c.codes-codes.ensures.value
 
 pub number_cells-requires-clause-size : goal.number_cells-requires-clause-size
 number_cells-requires-clause-size g c κs within =
     ap length c.in_ok-numbers.ensures
-    ∙ (grid_flow c.args.d.now c.args.tiling.now c.codes-codes.result.now
+    ∙ (grid_flow c.args.tiling.now
     c.codes-codes.ensures.draining c.requires c.codes-codes.ensures.value).size
 
 pub number_cells-requires-clause-few : goal.number_cells-requires-clause-few
@@ -35,7 +35,7 @@ number_cells-requires-clause-few g c κs within i below =
     let t = c.args.tiling.now in
     let most : t.cols * t.rows ≤ 4096 * 4096 =
     mul-le-mul c.cols.ensures.lawful.few_cols c.cols.ensures.lawful.few_rows in
-    let flow = grid_flow c.args.d.now t c.codes-codes.result.now c.codes-codes.ensures.draining
+    let flow = grid_flow t c.codes-codes.ensures.draining
     c.requires c.codes-codes.ensures.value in
     outlet_number_few c.in_ok-numbers.numbers
     (omega (arith, most, flow.size, ap length c.in_ok-numbers.ensures)) i
@@ -44,7 +44,7 @@ pub returns-clause-values : goal.returns-clause-values
 returns-clause-values g c =
     let t = c.args.tiling.now in
     let codes = c.codes-codes.result.now in
-    let d = make_directed t.cols t.rows codes in
+    let d = directed_on t codes in
     IfOk-weaker c.number_cells.result (λ (v : Vec (Option ℕ) Global).
     IsMapOf d (end_number d (outlet_numbers c.in_ok-numbers.numbers)) v.items)
     (λ (v : Vec (Option ℕ) Global). AreBasins (directed_of c.args.d.now) v.items)

@@ -5,7 +5,7 @@ use Rattle.terrain.specs.declared.place.Place.{Place}
 use Rattle.drainage.specs.Following.{Directed}
 use Rattle.flow.specs.Catchments.{AreCatchments}
 use Rattle.flow.specs.CutCodes.{gauge_numbers}
-use Rattle.flow.specs.Whole.{IsGridFlow, make_directed}
+use Rattle.flow.specs.Whole.{IsGridFlow, make_directed, directed_on}
 use Rattle.flow.specs.Numbering.{end_number}
 use Rattle.flow.specs.Counts.{IsMapOf}
 use Rattle.flow.proofs.CutPaths.{cut_ends, catchments_are, position_below}
@@ -15,22 +15,22 @@ use Rattle.flow.proofs.Together.{directed_same, grid_flow}
 use Rattle.flow.proofs.catchment.catchments.Goals as goal
 
 pub cut_codes-requires-clause-size : goal.cut_codes-requires-clause-size
-cut_codes-requires-clause-size g c = (grid_flow c.args.d.now c.args.tiling.now c.codes.result.now
+cut_codes-requires-clause-size g c = (grid_flow c.args.tiling.now
     c.codes.ensures.draining c.requires c.codes.ensures.value).size
 
 pub cut_codes-requires-clause-coded : goal.cut_codes-requires-clause-coded
 cut_codes-requires-clause-coded g c p named =
-    have_codes_in c.args.d.now c.codes.ensures.draining c.args.gauges.now (sym c.first_fault.ensures
-    ∙ c.in_default.is) c.args.tiling.now c.codes.result.now c.requires c.codes.ensures.value p named
+    have_codes_in c.codes.ensures.draining c.args.gauges.now (sym c.first_fault.ensures
+    ∙ c.in_default.is) c.args.tiling.now c.requires c.codes.ensures.value p named
 
 pub of_gauges-requires-clause-few : goal.of_gauges-requires-clause-few
 of_gauges-requires-clause-few g c =
-    few_gauges c.args.d.now c.codes.ensures.draining c.args.gauges.now (sym c.first_fault.ensures
+    few_gauges c.codes.ensures.draining c.args.gauges.now (sym c.first_fault.ensures
     ∙ c.in_default.is)
 
 pub of_gauges-requires-clause-within : goal.of_gauges-requires-clause-within
 of_gauges-requires-clause-within g c k d below =
-    let sound = all_sound c.args.d.now c.codes.ensures.draining c.args.gauges.now
+    let sound = all_sound c.codes.ensures.draining c.args.gauges.now
     (sym c.first_fault.ensures ∙ c.in_default.is) k d below in
     (omega (arith, sound.0.0, c.requires.1), omega (arith, sound.0.1, c.requires.0))
 
@@ -39,20 +39,19 @@ number_cells-requires-clause-grid g c κs within =
     let t = c.args.tiling.now in
     let codes = c.codes.result.now in
     let flow =
-    grid_flow c.args.d.now t codes c.codes.ensures.draining c.requires c.codes.ensures.value in
-    let d = make_directed t.cols t.rows codes in
-    let coded = have_codes_in c.args.d.now c.codes.ensures.draining c.args.gauges.now
-    (sym c.first_fault.ensures ∙ c.in_default.is) t codes c.requires c.codes.ensures.value in
-    subst (λ (l : List (Option ℕ)). IsGridFlow t.cols t.rows l) (sym c.deref.ensures.value)
-    (record {
+    grid_flow t c.codes.ensures.draining c.requires c.codes.ensures.value in
+    let d = directed_on t codes in
+    let coded = have_codes_in c.codes.ensures.draining c.args.gauges.now
+    (sym c.first_fault.ensures ∙ c.in_default.is) t c.requires c.codes.ensures.value in
+    rw c.deref.ensures.value (record {
       size = c.in_ok-codes.ensures.cut.size ∙ flow.size;
-      ends = cut_ends d (ending_of d t flow.ends c.in_ok-codes.ensures.cutting
-          (refl, refl)) c.args.gauges.now c.in_ok-codes.codes.items coded c.in_ok-codes.ensures.cut;
+      ends = cut_ends (ending_of d flow.ends c.in_ok-codes.ensures.cutting
+          (refl, refl)) coded c.in_ok-codes.ensures.cut;
     })
 
 pub number_cells-requires-clause-few : goal.number_cells-requires-clause-few
 number_cells-requires-clause-few g c κs within i below =
-    let few = few_gauges c.args.d.now c.codes.ensures.draining c.args.gauges.now
+    let few = few_gauges c.codes.ensures.draining c.args.gauges.now
     (sym c.first_fault.ensures ∙ c.in_default.is) in
     let number = ap (λ (o : Option ℕ). unwrap_or o 0) (c.in_ok-numbers.ensures.numbers i) in
     omega (
@@ -67,18 +66,15 @@ returns-clause-values g c =
     let t = c.args.tiling.now in
     let codes = c.codes.result.now in
     let flow =
-    grid_flow c.args.d.now t codes c.codes.ensures.draining c.requires c.codes.ensures.value in
-    let d = make_directed t.cols t.rows codes in
-    let coded = have_codes_in c.args.d.now c.codes.ensures.draining c.args.gauges.now
-    (sym c.first_fault.ensures ∙ c.in_default.is) t codes c.requires c.codes.ensures.value in
+    grid_flow t c.codes.ensures.draining c.requires c.codes.ensures.value in
+    let d = directed_on t codes in
+    let coded = have_codes_in c.codes.ensures.draining c.args.gauges.now
+    (sym c.first_fault.ensures ∙ c.in_default.is) t c.requires c.codes.ensures.value in
     let n = gauge_numbers c.in_ok-numbers.numbers.cells c.in_ok-numbers.numbers.numbers in
     let values = c.in_ok-values.values.items in
-    subst (λ (x : Directed). AreCatchments x c.args.gauges.now values)
-    (directed_same c.args.d.now t codes c.requires c.codes.ensures.value) (
-    catchments_are d (ending_of d t flow.ends c.in_ok-codes.ensures.cutting
-    (refl, refl)) c.args.gauges.now c.in_ok-codes.codes.items coded c.in_ok-codes.ensures.cut n
+    (rw (directed_same c.args.d.now t codes c.requires c.codes.ensures.value) at (
+    catchments_are (ending_of d flow.ends c.in_ok-codes.ensures.cutting
+    (refl, refl)) coded c.in_ok-codes.ensures.cut n
     (λ i. ap (λ (o : Option ℕ). unwrap_or o 0) (c.in_ok-numbers.ensures.numbers i)) values
-    (subst (λ (l : List (Option ℕ)). IsMapOf
-    (make_directed t.cols t.rows l) (end_number (make_directed t.cols t.rows l) n) values)
-    c.deref.ensures.value c.in_ok-values.ensures.values)
-    )
+    (rw c.deref.ensures.value at c.in_ok-values.ensures.values)
+    ))

@@ -12,9 +12,9 @@ loop-gauge-preserved c =
     let below : k < length gauges = omega (arith, c.loop-gauge-test.true) in
     let g = get_or gauges k (make_place 0 0) in
     let index : c.index_in.result ≡ index_of t.cols g =
-    index_at t.cols _ gauges k _ _
+    index_at gauges k _
     (make_place 0 0) below c.cols-cols.ensures.value c.index_in.ensures in
-    cut_next t.cols t.rows c.args.codes.now gauges k c.loop-gauge.cut.items _
+    cut_next gauges k
     (make_place 0 0) c.requires.size below
     (gauge_inside t.cols t.rows c.args.codes.now gauges k (make_place 0 0) below c.requires.coded)
     (ap (λ (i : ℕ). set c.loop-gauge.cut.items i (Some c.outlet.result)) index

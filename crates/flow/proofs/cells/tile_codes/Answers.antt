@@ -11,14 +11,12 @@ loop-row-preserved c =
     search rules in
     let inside :
     AreBounds c.args.codes.now.cutting (bounds_of c.args.codes.now.cutting c.args.codes.now.tile) =
-    subst (λ (b : Bounds). AreBounds c.args.codes.now.cutting b)
-    c.bounds-bounds.ensures.value c.bounds-bounds.ensures.inside in
+    rw c.bounds-bounds.ensures.value at c.bounds-bounds.ensures.inside in
     let rows = ap (λ (b : Bounds). b.rows) c.bounds-bounds.ensures.value in
     let so_far : AreFirstRows c.args.codes.now (bounds_of c.args.codes.now.cutting
     c.args.codes.now.tile) c.loop-row.row c.loop-row.cells.items =
     record { size = c.loop-row.invariant.size; each = c.loop-row.invariant.each } in
-    let more = row_added v (bounds_of v.cutting v.tile) c.loop-row.row c.loop-row.cells.items
-    c.row.result.now c.extend_from_slice.new.self.items refl inside
+    let more = row_added refl inside
     (omega (arith, c.loop-row-test.true, rows))
     c.row.ensures.value c.row.ensures.size made so_far in
     record { size = more.size; each = more.each }

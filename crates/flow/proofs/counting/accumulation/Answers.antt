@@ -10,13 +10,13 @@ use Rattle.flow.proofs.Together.{grid_flow, whole_map}
 use Rattle.flow.proofs.counting.accumulation.Goals as goal
 
 pub flow_tiles-requires-clause-grid : goal.flow_tiles-requires-clause-grid
-flow_tiles-requires-clause-grid g c κs within = grid_flow c.args.d.now c.args.tiling.now
-    c.codes.result.now c.codes.ensures.draining c.requires c.codes.ensures.value
+flow_tiles-requires-clause-grid g c κs within = grid_flow c.args.tiling.now c.codes.ensures.draining c.requires
+    c.codes.ensures.value
 
 pub invariant_of-map_tiles : goal.invariant_of-map_tiles
 invariant_of-map_tiles g c = record {
-  countable = countable_all _ _ _ _ (counting_of c.args.tiling.now c.codes.result.now _ _ _
-      (grid_flow c.args.d.now c.args.tiling.now c.codes.result.now c.codes.ensures.draining
+  countable = countable_all (counting_of _
+      (grid_flow c.args.tiling.now c.codes.ensures.draining
       c.requires c.codes.ensures.value)
       c.in_ok-flows.ensures.flows
       c.in_ok-flows.ensures.counts c.deref.ensures.value c.in_ok-inflows.ensures.inflows);
@@ -26,8 +26,8 @@ pub returns-clause-values : goal.returns-clause-values
 returns-clause-values g c =
     let t = c.args.tiling.now in
     let codes = c.codes.result.now in
-    let counting = counting_of t codes _ _ _
-    (grid_flow c.args.d.now t codes c.codes.ensures.draining c.requires c.codes.ensures.value)
+    let counting = counting_of _
+    (grid_flow t c.codes.ensures.draining c.requires c.codes.ensures.value)
     c.in_ok-flows.ensures.flows
     c.in_ok-flows.ensures.counts c.deref.ensures.value c.in_ok-inflows.ensures.inflows in
     IfOk-weaker c.map_tiles.result (λ (v : Vec (Option ℕ) Global).

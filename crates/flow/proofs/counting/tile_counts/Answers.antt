@@ -13,7 +13,7 @@ inflow_weights-requires-clause-size c = ap length c.codes-codes.ensures
 
 pub totals_of_few-requires-clause-streams : goal.totals_of_few-requires-clause-streams
 totals_of_few-requires-clause-streams c =
-    subst (λ (l : List ℕ). AreStreams l) (sym c.links.ensures) c.requires.countable.streams
+    rw c.links.ensures c.requires.countable.streams
 
 pub totals_of_few-requires-clause-few : goal.totals_of_few-requires-clause-few
 totals_of_few-requires-clause-few c = omega (
@@ -49,15 +49,15 @@ counts-requires-clause-totals c = omega (
   ap length c.codes-codes.ensures,
 )
 
-added_by : (f : Flow) (links weights added : List ℕ) → links ≡ links_by f.bounds f.codes →
+added_by : (f : Flow) {links weights added : List ℕ} → links ≡ links_by f.bounds f.codes →
     AreSums links weights added → AreSums (links_by f.bounds f.codes) weights added
-added_by f links weights added made summed = subst (λ (l : List ℕ). AreSums l weights added) made summed
+added_by f {weights = weights} {added = added} made summed = rw made at summed
 
 pub counts-requires-clause-added : goal.counts-requires-clause-added
 counts-requires-clause-added c =
     omega (
       arith,
-      (added_by c.args.flow.now _ _ _ c.links.ensures c.in_ok-added.ensures).size,
+      (added_by c.args.flow.now c.links.ensures c.in_ok-added.ensures).size,
       c.requires.countable.linked,
       ap length c.deref.ensures.value,
       ap length c.codes-codes.ensures,
@@ -72,7 +72,7 @@ counts-requires-clause-fits c = λ i h.
     omega (
       arith,
       c.totals.ensures.each i there,
-      (added_by c.args.flow.now _ _ _ c.links.ensures c.in_ok-added.ensures).each i there,
+      (added_by c.args.flow.now c.links.ensures c.in_ok-added.ensures).each i there,
       c.requires.countable.totals_fit c.in_ok-weights.weights.items c.in_ok-weights.ensures i below,
       ap (λ (l : List ℕ). get_or l i 0) c.deref.ensures.value,
     )
@@ -90,7 +90,7 @@ returns c =
       added = c.in_ok-added.added.items;
       weighed = c.in_ok-weights.ensures;
       counted = c.totals.ensures;
-      summed = added_by c.args.flow.now _ _ _ c.links.ensures c.in_ok-added.ensures;
+      summed = added_by c.args.flow.now c.links.ensures c.in_ok-added.ensures;
       made = e ∙ ap (λ (x : List (Option ℕ)). counts_by x
           (λ i. slice_index c.totals.result.now i + slice_index c.deref.result.now i))
           c.codes-codes.ensures

@@ -18,5 +18,5 @@ path-smaller g c =
 pub returns-then-next-node : goal.returns-then-next-node
 returns-then-next-node g c =
     let links = g.L.Links.list c.args.links.now in
-    c.if-next-node.true ∙ sym (node_after-stays links c.path.node
+    c.if-next-node.true ∙ sym (node_after-stays links
     (sym c.next-next.ensures ∙ c.if-next-node.true) (length links)) ∙ c.path.invariant.1

@@ -1,15 +1,15 @@
 use Rattle.std.proofs.Common.{refl}
 use Rattle.flow.specs.TileFlow.{IsTileExits}
 use Rattle.flow.specs.RimGraph.{AreFlowsOf}
-use Rattle.flow.specs.Whole.{make_directed}
+use Rattle.flow.specs.Whole.{make_directed, directed_on}
 use Rattle.flow.proofs.Together.{jobs_gave}
 use Rattle.flow.proofs.flowing.exit_tiles.Goals as goal
 
 pub returns-clause-flows : goal.returns-clause-flows
 returns-clause-flows g c =
     let t = c.args.tiling.now in
-    let d = make_directed t.cols t.rows c.args.codes.now in
-    jobs_gave (IsTileExits d t) c.run.result _ _ (AreFlowsOf d t) c.tiles.ensures.value
+    let d = directed_on t c.args.codes.now in
+    jobs_gave (IsTileExits d t) c.run.result (AreFlowsOf d t) c.tiles.ensures.value
     (λ outs count each. record {
       cutting = c.tiles.ensures.lawful;
       ends = c.requires.grid.ends;

@@ -14,8 +14,8 @@ returns-then-is_none c =
     let col : p.col < d.terrain.cols =
     omega (arith, c.if-gauge-cols.false, c.cols.ensures.value, c.requires.0) in
     sym (ap (option_map fault_of_gauge) (fault_inside d.terrain c.args.index p row col
-    ∙ ap (λ b. if b then Some (OnNodata c.args.index) else None) (none_of_code d
-    c.code.ensures.draining p c.code.result c.is_none.result c.code.ensures.value c.is_none.ensures
+    ∙ ap (λ b. if b then Some (OnNodata c.args.index) else None) (none_of_code
+    c.code.ensures.draining p c.is_none.result c.code.ensures.value c.is_none.ensures
     ∙ c.if-is_none.true)))
 
 pub returns : goal.returns
@@ -27,6 +27,6 @@ returns c =
     let col : p.col < d.terrain.cols =
     omega (arith, c.if-gauge-cols.false, c.cols.ensures.value, c.requires.0) in
     sym (ap (option_map fault_of_gauge) (fault_inside d.terrain c.args.index p row col
-    ∙ ap (λ b. if b then Some (OnNodata c.args.index) else None) (none_of_code d
-    c.code.ensures.draining p c.code.result c.is_none.result c.code.ensures.value c.is_none.ensures
+    ∙ ap (λ b. if b then Some (OnNodata c.args.index) else None) (none_of_code
+    c.code.ensures.draining p c.is_none.result c.code.ensures.value c.is_none.ensures
     ∙ c.if-is_none.false)))

@@ -6,15 +6,13 @@ use Rattle.flow.proofs.RimAdded.{adds_fit, adds_more, adds_done}
 use Rattle.flow.proofs.inflows.add_all.Goals as goal
 
 pub add_at-requires-clause-small : goal.add_at-requires-clause-small
-add_at-requires-clause-small c = bounds_end_in_grid c.args.tiling.now c.bounds-bounds.result
+add_at-requires-clause-small c = bounds_end_in_grid
     c.bounds-bounds.ensures.lawful c.bounds-bounds.ensures.inside
 
 pub add_at-requires-clause-fits : goal.add_at-requires-clause-fits
 add_at-requires-clause-fits c =
-    adds_fit c.args.tiling.now c.bounds-bounds.ensures.lawful c.args.listed.now c.args.tile
-    c.requires.tile c.args.weights.now
-    c.bounds-bounds.result c.bounds-bounds.ensures.value c.loop-side.weights c.loop-side.side
-    c.side_cell.result _
+    adds_fit c.bounds-bounds.ensures.lawful c.args.listed.now c.args.tile
+    c.requires.tile c.args.weights.now c.bounds-bounds.ensures.value c.loop-side.weights c.loop-side.side
     (c.side_cell.ensures.value ∙ ap (λ (l : Bounds).
     side_cell l c.bounds-bounds.result c.loop-side.side) c.bounds-largest.ensures.value)
     (ap (λ n. get_or c.args.listed.now (n + c.loop-side.side) 0)
@@ -26,10 +24,9 @@ add_at-requires-clause-fits c =
 pub loop-side-preserved : goal.loop-side-preserved
 loop-side-preserved c = record {
   size = c.add_at.ensures.size ∙ c.loop-side.invariant.size;
-  each = adds_more c.args.tiling.now c.bounds-bounds.ensures.lawful c.args.listed.now c.args.tile
-      c.requires.tile c.args.weights.now
-      c.bounds-bounds.result c.bounds-bounds.ensures.value c.loop-side.weights c.add_at.new.weights
-      c.loop-side.side c.side_cell.result _
+  each = adds_more c.bounds-bounds.ensures.lawful c.args.listed.now c.args.tile
+      c.requires.tile c.args.weights.now c.bounds-bounds.ensures.value c.loop-side.weights c.add_at.new.weights
+      c.loop-side.side
       (c.side_cell.ensures.value ∙ ap (λ (l : Bounds).
       side_cell l c.bounds-bounds.result c.loop-side.side) c.bounds-largest.ensures.value)
       (ap (λ n. get_or c.args.listed.now (n + c.loop-side.side) 0)
@@ -39,9 +36,9 @@ loop-side-preserved c = record {
 
 pub returns-clause-each : goal.returns-clause-each
 returns-clause-each c =
-    adds_done c.args.tiling.now c.bounds-bounds.ensures.lawful c.args.listed.now c.args.tile
+    adds_done c.bounds-bounds.ensures.lawful c.args.listed.now c.args.tile
     c.requires.tile c.args.weights.now
-    c.loop-side.weights c.loop-side.side (omega (
+    c.loop-side.weights (omega (
       arith,
       c.loop-side-test.false,
       c.loop-side.auto.side-end,

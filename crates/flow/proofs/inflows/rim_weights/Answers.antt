@@ -5,7 +5,7 @@ use Rattle.flow.proofs.inflows.rim_weights.Goals as goal
 
 pub returns : goal.returns
 returns c =
-    mapped_all (rim_weight c.args.tiling.now c.args.flows.now) _ _ _ c.loop-number.invariant
+    mapped_all (rim_weight c.args.tiling.now c.args.flows.now) c.loop-number.invariant
     (omega (
       arith,
       c.loop-number-test.false,

@@ -8,20 +8,18 @@ use Rattle.flow.proofs.RimTotals.{weight_few}
 use Rattle.flow.proofs.inflows.weight_of.Goals as goal
 
 pub bounds : goal.bounds
-bounds c = omega (arith, c.requires.number, targets_size _ _ _ c.requires.targets)
+bounds c = omega (arith, c.requires.number, targets_size _ _ c.requires.targets)
 
 pub returns-in_default : goal.returns-in_default
 returns-in_default c = ap (weight_or
     (through_by c.args.tiling.now c.args.flows.now (rim_place c.args.tiling.now c.args.number)))
-    (sym c.in_default.is ∙ (target_listed _ _ _ c.requires.targets c.args.number c.requires.number))
+    (sym c.in_default.is ∙ (target_listed _ _ c.requires.targets c.args.number c.requires.number))
 
 pub through_at-requires-clause-within : goal.through_at-requires-clause-within
 through_at-requires-clause-within c =
-    let x = target_from c.requires.flows.0
-    c.args.tiling.now c.args.flows.now c.requires.flows.1 c.args.number c.in-Some.field-0
-    (sym (target_listed _ _ _ c.requires.targets c.args.number c.requires.number) ∙ c.in-Some.is) in
-    subst (λ (p : Place). IsWithin c.args.tiling.now p) (sym c.rim_place.ensures) (within_of
-    c.requires.flows.0 c.args.tiling.now c.args.flows.now c.requires.flows.1 _ x.crosses.coded)
+    let x = target_from c.requires.flows.1 c.args.number c.in-Some.field-0
+    (sym (target_listed _ _ c.requires.targets c.args.number c.requires.number) ∙ c.in-Some.is) in
+    rw c.rim_place.ensures (within_of c.requires.flows.1 x.crosses.coded)
 
 pub overflow_add-result : goal.overflow_add-result
 overflow_add-result c =
@@ -29,14 +27,14 @@ overflow_add-result c =
     + 1 =
     ap (weight_or
     (through_by c.args.tiling.now c.args.flows.now (rim_place c.args.tiling.now c.args.number)))
-    (sym (target_listed _ _ _ c.requires.targets c.args.number c.requires.number) ∙ c.in-Some.is)
+    (sym (target_listed _ _ c.requires.targets c.args.number c.requires.number) ∙ c.in-Some.is)
     ∙ sym (ap
     (λ n. n + 1) (c.unwrap_or.ensures ∙ ap (λ (o : Option ℕ). unwrap_or o 0) (c.through_at.ensures
     ∙ ap (through_by c.args.tiling.now c.args.flows.now) c.rim_place.ensures))) in
     let fits : c.unwrap_or.result + 1 < 2 ^ 32 = omega (
       arith,
       weight,
-      weight_few c.requires.flows.0 c.args.tiling.now c.args.flows.now c.requires.flows.1
+      weight_few c.requires.flows.1
           c.requires.flows.2 c.args.number,
     ) in
     search rules
@@ -45,7 +43,7 @@ pub returns : goal.returns
 returns c =
     sym (ap (weight_or
     (through_by c.args.tiling.now c.args.flows.now (rim_place c.args.tiling.now c.args.number)))
-    (sym (target_listed _ _ _ c.requires.targets c.args.number c.requires.number) ∙ c.in-Some.is)
+    (sym (target_listed _ _ c.requires.targets c.args.number c.requires.number) ∙ c.in-Some.is)
     ∙ sym (ap
     (λ n. n + 1) (c.unwrap_or.ensures ∙ ap (λ (o : Option ℕ). unwrap_or o 0) (c.through_at.ensures
     ∙ ap (through_by c.args.tiling.now c.args.flows.now) c.rim_place.ensures))))

@@ -5,5 +5,5 @@ use Rattle.flow.proofs.laws.catchments_of_outlets_are_basins.Goals as goal
 
 pub returns : goal.returns
 returns c = λ d p terrain draining is.
-    basins_are (directed_of d) (drained_ending d terrain draining) draining.codes_size p
+    basins_are (drained_ending d terrain draining) draining.codes_size p
     (drained_coded d draining p is)

@@ -3,14 +3,14 @@ use Rattle.std.proofs.lemmas.Result.{IfOk-weaker}
 use Rattle.tile_maps.specs.Maps.{IsMadeMap}
 use Rattle.tile_maps.proofs.Whole.{entry_of_map}
 use Rattle.flow.specs.Counts.{IsMapOf}
-use Rattle.flow.specs.Whole.{make_directed}
+use Rattle.flow.specs.Whole.{make_directed, directed_on}
 use Rattle.flow.specs.Numbering.{IsEndNumberAt, end_number}
 use Rattle.flow.proofs.Numbered.{numbering_of, ready}
 use Rattle.flow.proofs.numbering.number_cells.Goals as goal
 
 pub invariant_of-map_tiles : goal.invariant_of-map_tiles
 invariant_of-map_tiles g c = record {
-  ready = ready _ _ _ _ _ (numbering_of c.args.tiling.now c.args.codes.now _ _ _
+  ready = ready (numbering_of c.args.codes.now _
       (g.N.EndNumbering.numbers c.args.numbers)
       c.in_ok-flows.ensures.flows refl c.in_ok-outlets.ensures.cutting
       c.in_ok-outlets.ensures.outlets c.requires.size c.requires.few);
@@ -19,9 +19,9 @@ invariant_of-map_tiles g c = record {
 pub returns-clause-values : goal.returns-clause-values
 returns-clause-values g c =
     let t = c.args.tiling.now in
-    let d = make_directed t.cols t.rows c.args.codes.now in
+    let d = directed_on t c.args.codes.now in
     let n = g.N.EndNumbering.numbers c.args.numbers in
-    let numbering = numbering_of t c.args.codes.now _ _ _ n c.in_ok-flows.ensures.flows
+    let numbering = numbering_of c.args.codes.now _ n c.in_ok-flows.ensures.flows
     refl c.in_ok-outlets.ensures.cutting
     c.in_ok-outlets.ensures.outlets c.requires.size c.requires.few in
     IfOk-weaker c.map_tiles.result (λ (v : Vec (Option ℕ) Global).

@@ -6,7 +6,7 @@ use Rattle.flow.proofs.outlets.rim_outlets.Goals as goal
 pub returns : goal.returns
 returns g c =
     mapped_all (rim_outlet c.args.tiling.now (g.F.ExitList.flows c.args.flows.now) c.args.ends.now)
-    _ _ _ c.loop-number.invariant (omega (
+    c.loop-number.invariant (omega (
       arith,
       c.loop-number-test.false,
       c.loop-number.auto.number-end,

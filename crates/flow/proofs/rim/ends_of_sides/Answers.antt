@@ -18,6 +18,6 @@ side_inside b i some_row some_col below =
 
 pub index_of-requires-clause-inside : goal.index_of-requires-clause-inside
 index_of-requires-clause-inside c =
-    subst (IsInBounds c.args.bounds) (sym c.side_place-place.ensures)
-    (side_inside c.args.bounds c.loop-side.side c.requires.some_row c.requires.small.some_col
-    (omega (arith, c.loop-side-test.true, c.side_count-side-end.ensures)))
+    (rw (← c.side_place-place.ensures) at (side_inside c.args.bounds c.loop-side.side c.requires.some_row
+    c.requires.small.some_col
+    (omega (arith, c.loop-side-test.true, c.side_count-side-end.ensures))))

@@ -5,7 +5,7 @@ use Rattle.flow.proofs.rim_graph.rim_links.Goals as goal
 
 pub returns : goal.returns
 returns g c =
-    mapped_all (rim_link c.args.tiling.now (g.F.ExitList.flows c.args.flows.now)) _ _ _ c.loop-number.invariant
+    mapped_all (rim_link c.args.tiling.now (g.F.ExitList.flows c.args.flows.now)) c.loop-number.invariant
     (omega (
       arith,
       c.loop-number-test.false,

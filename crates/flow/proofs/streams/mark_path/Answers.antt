@@ -15,14 +15,14 @@ path-init g c = record {
 pub path-preserved : goal.path-preserved
 path-preserved g c =
     let i = c.path.invariant in
-    let entry = entry_new _ _ c.requires.few c.path.node _ i.marks i.inside c.path-test.true in
+    let entry = entry_new c.requires.few i.marks i.inside c.path-test.true in
     record {
-      marks = mark_on _ _ c.requires.few c.path.node _ i.marks i.inside _ entry c.path-test.true c.next-next.result
+      marks = mark_on c.requires.few i.marks i.inside entry c.path-test.true c.next-next.result
           c.next-next.ensures c.if-next-node.false;
       inside = omega (arith, c.next-next.ensures, c.requires.streams.inside c.path.node i.inside);
       few = omega arith;
-      kept = λ j k. set_kept _ _ c.requires.few c.path.node _ i.marks i.inside _ entry j (i.kept j k);
-      marked = inr (set_from _ _ c.requires.few c.path.node _ i.marks i.inside _ entry c.args.from i.marked);
+      kept = λ j k. set_kept c.requires.few i.marks i.inside entry j (i.kept j k);
+      marked = inr (set_from c.requires.few i.marks i.inside entry c.args.from i.marked);
     }
 
 pub path-smaller : goal.path-smaller
@@ -38,26 +38,26 @@ pub overflow_add-waits : goal.overflow_add-waits
 overflow_add-waits g c =
     let i = c.path.invariant in
     let fits : get_or c.path.waits c.path.node 0 + c.path.donors < 2 ^ 32 =
-    entry_fits _ _ c.requires.few c.path.node _ i.marks i.inside c.path-test.false in
+    entry_fits c.requires.few i.marks i.inside c.path-test.false in
     search rules
 
 pub returns-then-next-node : goal.returns-then-next-node
 returns-then-next-node g c =
     let i = c.path.invariant in
-    let entry = entry_new _ _ c.requires.few c.path.node _ i.marks i.inside c.path-test.true in
+    let entry = entry_new c.requires.few i.marks i.inside c.path-test.true in
     record {
-      marks = mark_end _ _ c.requires.few c.path.node _ i.marks i.inside _ entry c.path-test.true
+      marks = mark_end c.requires.few i.marks i.inside entry c.path-test.true
           (sym c.next-next.ensures ∙ c.if-next-node.true);
-      kept = λ j k. set_kept _ _ c.requires.few c.path.node _ i.marks i.inside _ entry j (i.kept j k);
-      marked = λ _. set_from _ _ c.requires.few c.path.node _ i.marks i.inside _ entry c.args.from i.marked;
+      kept = λ j k. set_kept c.requires.few i.marks i.inside entry j (i.kept j k);
+      marked = λ _. set_from c.requires.few i.marks i.inside entry c.args.from i.marked;
     }
 
 pub returns : goal.returns
 returns g c =
     let i = c.path.invariant in
-    let entry = entry_added _ _ c.requires.few c.path.node _ i.marks i.inside c.path-test.false in
+    let entry = entry_added c.requires.few i.marks i.inside c.path-test.false in
     record {
-      marks = mark_added _ _ c.requires.few c.path.node _ i.marks i.inside _ entry c.path-test.false;
-      kept = λ j k. set_kept _ _ c.requires.few c.path.node _ i.marks i.inside _ entry j (i.kept j k);
-      marked = λ _. set_from _ _ c.requires.few c.path.node _ i.marks i.inside _ entry c.args.from i.marked;
+      marks = mark_added c.requires.few i.marks i.inside entry c.path-test.false;
+      kept = λ j k. set_kept c.requires.few i.marks i.inside entry j (i.kept j k);
+      marked = λ _. set_from c.requires.few i.marks i.inside entry c.args.from i.marked;
     }

@@ -12,8 +12,7 @@ send_all-requires g c =
     (c.count_donors.auto.counts ∙ c.deref_mut.ensures.len) in
     λ κs le. (
       le,
-      subst (λ (w : List ℕ). IsSending (g.L.Links.list c.args.links.now) w c.deref_mut-2.result.now w)
-          (sym c.deref_mut-3.ensures.value)
-          (donors_begin links c.args.weights.items _ c.requires.streams c.requires.few c.requires.same c.requires.fits
-          (subst (AreDonorCounts links) (sym (c.deref_mut-2.ensures.value ∙ all)) c.count_donors.ensures)),
+      rw c.deref_mut-3.ensures.value (donors_begin links c.args.weights.items _ c.requires.streams c.requires.few
+          c.requires.same c.requires.fits
+          (rw (c.deref_mut-2.ensures.value ∙ all) c.count_donors.ensures)),
     )

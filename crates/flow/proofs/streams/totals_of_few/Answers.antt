@@ -12,12 +12,8 @@ send_all-requires g c =
     c.in_ok-waits.waits.len (c.mark_paths.auto.waits ∙ c.deref_mut.ensures.len) in
     λ κs le. (
       le,
-      subst (λ (w : List ℕ). IsSending (g.L.Links.list c.args.links.now) w c.deref_mut-2.result.now w)
-          (sym c.deref_mut-3.ensures.value)
-          (marks_begin links c.args.weights.items _ c.requires.streams c.requires.few c.requires.same c.requires.fits 0
-          (subst (λ (l : List ℕ). AreMarks links l 0 0) (sym all) c.mark_paths.ensures.marks)
-          (subst (λ (l : List ℕ). (i : ℕ) → i < length links → get_or c.args.weights.items i 0 ≢ 0 → IsMarked l i)
-          (sym all)
-          (subst (λ (l : List ℕ). (i : ℕ) → i < length links → get_or l i 0 ≢ 0 → IsMarked c.mark_paths.new.waits i)
-          c.deref.ensures.value c.mark_paths.ensures.marked))),
+      rw c.deref_mut-3.ensures.value (marks_begin links c.args.weights.items _ c.requires.streams c.requires.few
+          c.requires.same c.requires.fits 0
+          (rw all c.mark_paths.ensures.marks)
+          (rw all (rw c.deref.ensures.value at c.mark_paths.ensures.marked))),
     )

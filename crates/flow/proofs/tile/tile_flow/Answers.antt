@@ -9,40 +9,35 @@ use Rattle.flow.proofs.tile.tile_flow.Goals as goal
 
 pub totals-requires-clause-streams : goal.totals-requires-clause-streams
 totals-requires-clause-streams c =
-    let s = lists_seen _ _ c.in_ok-exits.ensures c.requires c.bounds.ensures.lawful in
-    subst (λ (l : List ℕ). AreStreams l) (sym c.links.ensures) (streams _ _ _ _ _ s)
+    let s = lists_seen c.in_ok-exits.ensures c.requires c.bounds.ensures.lawful in
+    rw c.links.ensures (streams s)
 
 pub totals-requires-clause-few : goal.totals-requires-clause-few
 totals-requires-clause-few c =
-    let s = lists_seen _ _ c.in_ok-exits.ensures c.requires c.bounds.ensures.lawful in
-    omega (arith, few _ _ _ _ _ s, ap length c.links.ensures)
+    let s = lists_seen c.in_ok-exits.ensures c.requires c.bounds.ensures.lawful in
+    omega (arith, few s, ap length c.links.ensures)
 
 pub totals-requires-clause-same : goal.totals-requires-clause-same
 totals-requires-clause-same c =
-    let s = lists_seen _ _ c.in_ok-exits.ensures c.requires c.bounds.ensures.lawful in
+    let s = lists_seen c.in_ok-exits.ensures c.requires c.bounds.ensures.lawful in
     ap length (c.in_ok-weights.ensures ∙ ap weights_by c.codes.ensures) ∙ weights_size c.in_ok-exits.exits.codes
-    ∙ sym (ap length c.links.ensures ∙ sizes _ _ _ _ _ s)
+    ∙ sym (ap length c.links.ensures ∙ sizes s)
 
 pub totals-requires-clause-fits : goal.totals-requires-clause-fits
 totals-requires-clause-fits c =
-    let s = lists_seen _ _ c.in_ok-exits.ensures c.requires c.bounds.ensures.lawful in
-    subst (λ (l : List ℕ). (i : ℕ) → i < length l → total l c.in_ok-weights.weights.items i < 2 ^ 32)
-    (sym c.links.ensures)
-    (subst (λ (w : List ℕ). (i : ℕ) → i < length (links_by c.in_ok-exits.exits.bounds c.in_ok-exits.exits.codes) →
-    total (links_by c.in_ok-exits.exits.bounds c.in_ok-exits.exits.codes) w i < 2 ^ 32)
-    (sym (c.in_ok-weights.ensures ∙ ap weights_by c.codes.ensures)) (fits _ _ _ _ _ s))
+    let s = lists_seen c.in_ok-exits.ensures c.requires c.bounds.ensures.lawful in
+    rw c.links.ensures (rw (c.in_ok-weights.ensures ∙ ap weights_by c.codes.ensures) (fits s))
 
 summed_by : (f : Flow) (links codes_weights totals : List ℕ) → links ≡ links_by f.bounds f.codes →
     codes_weights ≡ weights_by f.codes → AreSums links codes_weights totals →
     AreSums (links_by f.bounds f.codes) (weights_by f.codes) totals
 summed_by f links weights totals made weighed summed =
-    subst (λ (w : List ℕ). AreSums (links_by f.bounds f.codes) w totals) weighed
-    (subst (λ (l : List ℕ). AreSums l weights totals) made summed)
+    rw weighed at (rw made at summed)
 
 pub invariant_of-result : goal.invariant_of-result
 invariant_of-result c =
-    let s = lists_seen _ _ c.in_ok-exits.ensures c.requires c.bounds.ensures.lawful in (
-      c.in_ok-totals.ensures.size ∙ ap length c.links.ensures ∙ sizes _ _ _ _ _ s,
+    let s = lists_seen c.in_ok-exits.ensures c.requires c.bounds.ensures.lawful in (
+      c.in_ok-totals.ensures.size ∙ ap length c.links.ensures ∙ sizes s,
       summed_by c.in_ok-exits.exits _ _ _ c.links.ensures (c.in_ok-weights.ensures ∙ ap weights_by c.codes.ensures)
           c.in_ok-totals.ensures,
     )
@@ -52,11 +47,11 @@ returns c =
     let v = c.args.codes.now in
     let f = c.in_ok-exits.exits in
     let totals = c.in_ok-totals.totals.items in
-    let s = lists_seen _ _ c.in_ok-exits.ensures c.requires c.bounds.ensures.lawful in
+    let s = lists_seen c.in_ok-exits.ensures c.requires c.bounds.ensures.lawful in
     record {
-      exits = exits_kept (directed_by v) v.cutting v.tile f (counts_by f.codes (slice_index totals))
+      exits = exits_kept (counts_by f.codes (slice_index totals))
           c.in_ok-exits.ensures;
-      counts = counts_are _ _ _ _ _ s totals (summed_by f _ _ _ c.links.ensures
+      counts = counts_are s (summed_by f _ _ _ c.links.ensures
           (c.in_ok-weights.ensures ∙ ap weights_by c.codes.ensures) c.in_ok-totals.ensures) (with_counts f totals)
           refl refl;
     }

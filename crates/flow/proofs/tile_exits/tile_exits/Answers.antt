@@ -4,35 +4,35 @@ use Rattle.flow.proofs.tile_exits.tile_exits.Goals as goal
 
 pub rim_ends-requires-clause-streams : goal.rim_ends-requires-clause-streams
 rim_ends-requires-clause-streams c =
-    let s = lists_made _ _ _ _ _ c.requires c.bounds-bounds.ensures.value
+    let s = lists_made c.requires c.bounds-bounds.ensures.value
     c.bounds-bounds.ensures.inside c.bounds-bounds.ensures.lawful c.in_ok-cells.ensures
     c.deref.ensures.value c.in_ok-links.ensures in
-    streams _ _ _ _ _ s
+    streams s
 
 pub rim_ends-requires-clause-few : goal.rim_ends-requires-clause-few
 rim_ends-requires-clause-few c =
-    let s = lists_made _ _ _ _ _ c.requires c.bounds-bounds.ensures.value
+    let s = lists_made c.requires c.bounds-bounds.ensures.value
     c.bounds-bounds.ensures.inside c.bounds-bounds.ensures.lawful c.in_ok-cells.ensures
     c.deref.ensures.value c.in_ok-links.ensures in
-    omega (arith, few _ _ _ _ _ s)
+    omega (arith, few s)
 
 pub rim_ends-requires-clause-size : goal.rim_ends-requires-clause-size
 rim_ends-requires-clause-size c =
-    let s = lists_made _ _ _ _ _ c.requires c.bounds-bounds.ensures.value
+    let s = lists_made c.requires c.bounds-bounds.ensures.value
     c.bounds-bounds.ensures.inside c.bounds-bounds.ensures.lawful c.in_ok-cells.ensures
     c.deref.ensures.value c.in_ok-links.ensures in
-    (piece _ _ _ _ _ s).made.size
+    (piece s).made.size
 
 pub invariant_of-result : goal.invariant_of-result
 invariant_of-result c =
-    let s = lists_made _ _ _ _ _ c.requires c.bounds-bounds.ensures.value
+    let s = lists_made c.requires c.bounds-bounds.ensures.value
     c.bounds-bounds.ensures.inside c.bounds-bounds.ensures.lawful c.in_ok-cells.ensures
     c.deref.ensures.value c.in_ok-links.ensures in
-    lists_are _ _ _ _ _ s _ c.in_ok-rim_ends.ensures
+    lists_are s _ c.in_ok-rim_ends.ensures
 
 pub returns : goal.returns
 returns c =
-    let s = lists_made _ _ _ _ _ c.requires c.bounds-bounds.ensures.value
+    let s = lists_made c.requires c.bounds-bounds.ensures.value
     c.bounds-bounds.ensures.inside c.bounds-bounds.ensures.lawful c.in_ok-cells.ensures
     c.deref.ensures.value c.in_ok-links.ensures in
-    exits_are _ _ _ _ _ s _ (ends_are _)
+    exits_are s (ends_are _)

@@ -25,8 +25,7 @@ loop-col-preserved c =
         length-append c.loop-col.moves.items (c.move_at-to.result ∷ []),
         c.loop-col.invariant.size,
       );
-      each = each_pushed (λ i move. IsMove b i (get_or cells i None) move) (c.args.row * b.cols + c.loop-col.col)
-          c.loop-col.moves.items _ c.move_at-to.result c.loop-col.invariant.size c.loop-col.invariant.each
-          (subst (λ (code : Option ℕ). IsMove b (c.args.row * b.cols + c.loop-col.col) code c.move_at-to.result) cell
-          c.move_at-to.ensures) pushed;
+      each = each_pushed (λ i move. IsMove b i (get_or cells i None) move)
+          c.loop-col.moves.items c.move_at-to.result c.loop-col.invariant.size c.loop-col.invariant.each
+          (rw cell at c.move_at-to.ensures) pushed;
     }

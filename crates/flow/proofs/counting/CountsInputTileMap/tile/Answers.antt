@@ -21,10 +21,10 @@ returns c =
     slice_get_read m.flows.items (length m.flows.items) c.args.tile flow refl
     (omega (arith, c.requires, m.countable.count)) c.index-flow.ensures in
     let counts = c.in_ok-counts.ensures in
-    let size = counts_size m.inflows c.args.tile flow c.in_ok-counts.counts.items counts
+    let size = counts_size counts
     ∙ (m.countable.each c.args.tile flow there).size
     ∙ ap (λ (x : Cutting). cell_count x c.args.tile) m.countable.same_cutting in
     tile_of_entries m.tiling.now c.args.tile
     (IsCountAt m.tiling.now m.flows.items m.inflows) c.in_ok-counts.counts.items size
-    (λ p i codes s. entry_counted m.tiling.now codes m.flows.items m.inflows s c.args.tile flow
-    there c.in_ok-counts.counts.items counts p i)
+    (λ p i codes s. entry_counted s c.args.tile flow
+    there counts p i)

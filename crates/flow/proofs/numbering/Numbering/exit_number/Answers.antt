@@ -40,5 +40,5 @@ returns g c =
     (c.place_at.ensures.value
     ∙ ap (λ (b : Bounds). place_in b c.in-Some.exit) c.bounds.ensures.value)
     ∙ exit_number_own m.outlets m.flows.items (g.N.EndNumbering.numbers m.numbers)
-    c.args.flow.now.bounds c.args.index c.in-Some.exit (get_or c.args.flow.now.exits c.args.index
+    c.args.flow.now.bounds (get_or c.args.flow.now.exits c.args.index
     None) c.in-Some.ensures.value c.if-exit-index.false c.requires.exit

@@ -11,8 +11,7 @@ use Rattle.flow.proofs.numbering.NumberingTileMap.tile.Goals as goal
 pub exit_numbers-requires-clause-ends : goal.exit_numbers-requires-clause-ends
 exit_numbers-requires-clause-ends g c =
     let f = c.index-flow.result.now in
-    subst (λ (l : List ℕ). AreEnds (links_by f.bounds f.codes) l)
-    (sym c.deref.ensures.value) c.in_ok-ends.ensures
+    rw c.deref.ensures.value c.in_ok-ends.ensures
 
 pub exit_numbers-requires-clause-exits : goal.exit_numbers-requires-clause-exits
 exit_numbers-requires-clause-exits g c =
@@ -24,8 +23,7 @@ exit_numbers-requires-clause-exits g c =
 pub cell_numbers-requires-clause-ends : goal.cell_numbers-requires-clause-ends
 cell_numbers-requires-clause-ends g c =
     let f = c.index-flow.result.now in
-    subst (λ (l : List ℕ). AreEnds (links_by f.bounds f.codes) l)
-    (sym c.deref-2.ensures.value) c.in_ok-ends.ensures
+    rw c.deref-2.ensures.value c.in_ok-ends.ensures
 
 pub cell_numbers-requires-clause-size : goal.cell_numbers-requires-clause-size
 cell_numbers-requires-clause-size g c =
@@ -49,5 +47,4 @@ returns g c =
     ∙ (m.ready.each c.args.tile f there).size in
     tile_of_entries m.tiling.now c.args.tile (IsEndNumberAt m.tiling.now m.flows.items m.outlets
     (g.N.EndNumbering.numbers m.numbers)) c.in_ok-values.values.items size
-    (λ p i d s. entry_numbered d m.tiling.now m.flows.items m.outlets
-    (g.N.EndNumbering.numbers m.numbers) s c.args.tile f there c.in_ok-values.values.items made p i)
+    (λ p i d s. entry_numbered s c.args.tile f there made p i)

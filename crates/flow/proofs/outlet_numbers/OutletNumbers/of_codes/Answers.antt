@@ -20,8 +20,8 @@ loop-group-preserved c =
         length-append c.loop-group.before.items (c.loop-group.count ∷ []),
         before.size,
       );
-      each = each_pushed (λ k n. n ≡ count_by is_outlet_code (take (k * 16) codes))
-          group c.loop-group.before.items _ c.loop-group.count before.size before.each
+      each = each_pushed (λ k n. n ≡ count_by is_outlet_code (take (k * 16) codes)) c.loop-group.before.items
+          c.loop-group.count before.size before.each
           (before.total ∙ ap (λ n. count_by is_outlet_code (take n codes)) start) pushed;
       total = c.count_on-count.ensures.value ∙ ap (λ n. count_by is_outlet_code (take n codes)) end;
     }

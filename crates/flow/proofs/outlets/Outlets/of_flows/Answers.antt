@@ -12,30 +12,30 @@ rim_outlets-requires-clause-targets g c = c.deref.ensures.value ∙ c.requires.t
 
 pub ends-requires-clause-streams : goal.ends-requires-clause-streams
 ends-requires-clause-streams g c =
-    rim_streams _ _ _ c.requires.flows.1 _ c.requires.links
+    rim_streams c.requires.flows.1 c.requires.links
 
 pub ends-requires-clause-few : goal.ends-requires-clause-few
 ends-requires-clause-few g c = omega (
   arith,
-  links_size _ _ _ c.requires.flows.1 _ c.requires.links,
+  links_size c.requires.flows.1 c.requires.links,
   few_numbers _ c.requires.flows.1.cutting,
 )
 
 pub rim_outlets-requires-clause-size : goal.rim_outlets-requires-clause-size
 rim_outlets-requires-clause-size g c =
     ap length c.deref-2.ensures.value ∙ c.in_ok-ends.ensures.size
-    ∙ links_size _ _ _ c.requires.flows.1 _ c.requires.links
+    ∙ links_size c.requires.flows.1 c.requires.links
 
 pub rim_outlets-requires-clause-inside : goal.rim_outlets-requires-clause-inside
 rim_outlets-requires-clause-inside g c =
     let made = c.requires.links in
-    let size = links_size _ _ _ c.requires.flows.1 _ made in
+    let size = links_size c.requires.flows.1 made in
     λ i h. (let here : i < length c.args.rim_graph.now.links.items = omega (arith, h, size) in
     omega (
       arith,
       ap (λ (l : List ℕ). get_or l i 0) c.deref-2.ensures.value,
       c.in_ok-ends.ensures.each i here,
-      end-inside _ (rim_streams _ _ _ c.requires.flows.1 _ made) i here,
+      end-inside _ (rim_streams c.requires.flows.1 made) i here,
       size,
     ))
 
@@ -46,6 +46,6 @@ invariant_of-result g c =
 
 pub returns-clause-outlets : goal.returns-clause-outlets
 returns-clause-outlets g c d f =
-    outlets_are d c.args.tiling.now (g.F.ExitList.flows c.args.flows.now) f _ c.requires.links _ c.in_ok-ends.ensures _
+    outlets_are f c.requires.links c.in_ok-ends.ensures
     (c.in_ok-outlets.ensures
     ∙ ap (rim_outlets_by c.args.tiling.now (g.F.ExitList.flows c.args.flows.now)) c.deref-2.ensures.value)

@@ -14,15 +14,14 @@ returns c =
     let links = c.self.inside.links in
     let i = index_in b c.args.place in
     let inside =
-    subst (λ (f : Flow). IsInBounds f.bounds c.args.place) (sym c.self.view_is) c.requires in
+    rw (← c.self.view_is) at c.requires in
     let below : index_in c.self.inside.bounds c.args.place < length c.self.inside.codes.items =
     omega (arith, index_in_below b c.args.place inside, c.self.invariant.lawful.codes_size) in
     let end : c.end_in-end.result
     ≡ get_or (ends_by c.self.inside.links) (index_in c.self.inside.bounds c.args.place) 0 =
-    c.end_in-end.ensures ∙ end_listed _ _ _ _ c.self.invariant i below in
+    c.end_in-end.ensures ∙ end_listed c.self.invariant i below in
     subst (λ (f : Flow). c.where_data.result
     ≡ get_or f.exits (index_in f.bounds c.args.place) None) c.self.view_is
     (c.where_data.ensures
     ∙ made_at cells (λ i. place_in b (get_or (ends_by links) i 0)) (length cells) i _ _ below below
-    (subst (λ (n : ℕ). c.index.result.now ≡ get_or c.self.inside.codes.items n c.index.result.now)
-    c.index_of.ensures.value c.index.ensures) (c.place_at.ensures.value ∙ ap (place_in b) end))
+    (rw c.index_of.ensures.value at c.index.ensures) (c.place_at.ensures.value ∙ ap (place_in b) end))

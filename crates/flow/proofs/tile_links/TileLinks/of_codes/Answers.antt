@@ -8,12 +8,12 @@ all_rows : (b : Bounds) (cells : List (Option ℕ)) (moves : List ℕ) (row : �
     AreFirstMoves b cells (row * b.cols) moves → AreFirstMoves b cells (b.rows * b.cols) moves
 all_rows b cells moves row le ge s =
     let same : row ≡ b.rows = omega arith in
-    subst (λ (n : ℕ). AreFirstMoves b cells (n * b.cols) moves) same s
+    rw same at s
 
 pub invariant_of-result : goal.invariant_of-result
-invariant_of-result c = moves_fit c.args.bounds c.args.cells.now c.loop-row.moves.items c.requires.small
+invariant_of-result c = moves_fit c.requires.small
     (all_rows _ _ _ c.loop-row.row c.loop-row.auto.row-end c.loop-row-test.false c.loop-row.invariant)
 
 pub returns : goal.returns
-returns c = moved_links c.args.bounds c.args.cells.now c.loop-row.moves.items c.requires.small
+returns c = moved_links c.requires.small
     (all_rows _ _ _ c.loop-row.row c.loop-row.auto.row-end c.loop-row-test.false c.loop-row.invariant)

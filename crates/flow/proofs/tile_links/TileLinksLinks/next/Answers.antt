@@ -9,19 +9,19 @@ index-requires c =
 
 pub overflow_add-result : goal.overflow_add-result
 overflow_add-result c =
-    let read = next_read _ _ _ c.args.node _ c.self.invariant c.self.view_is c.requires c.index.ensures in
+    let read = next_read c.args.node c.self.invariant c.self.view_is c.requires c.index.ensures in
     let fits : c.args.node + c.index.result.now / 4 * c.self.inside.cols < 2 ^ 64 = omega (arith, read.1) in
     search rules
 
 pub overflow_add-result-2 : goal.overflow_add-result-2
 overflow_add-result-2 c =
-    let read = next_read _ _ _ c.args.node _ c.self.invariant c.self.view_is c.requires c.index.ensures in
+    let read = next_read c.args.node c.self.invariant c.self.view_is c.requires c.index.ensures in
     let fits : c.args.node + c.index.result.now / 4 * c.self.inside.cols + c.index.result.now % 4 < 2 ^ 64 =
     omega (arith, read.1) in
     search rules
 
 pub overflow_sub-result : goal.overflow_sub-result
-overflow_sub-result c = (next_read _ _ _ c.args.node _ c.self.invariant c.self.view_is c.requires c.index.ensures).0
+overflow_sub-result c = (next_read c.args.node c.self.invariant c.self.view_is c.requires c.index.ensures).0
 
 pub returns : goal.returns
-returns c = (next_read _ _ _ c.args.node _ c.self.invariant c.self.view_is c.requires c.index.ensures).2
+returns c = (next_read c.args.node c.self.invariant c.self.view_is c.requires c.index.ensures).2
