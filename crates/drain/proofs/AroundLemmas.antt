@@ -64,9 +64,9 @@ some_drop (Some h) level some = (h, refl, below-positive_part level h some)
 -- the height of `option_zip` is the place's height, since each data cell has steps
 pub zip_heights : (t : Terrain) (steps : List (Option ℕ)) (o : Option Place) → AreSteps t steps →
     option_map (λ (w : ℤ × ℕ). w.0)
-    (option_zip (option_and_then (λ q. entry_at t.cols t.rows t.cells q) o)
-    (option_and_then (λ q. entry_at t.cols t.rows steps q) o))
-    ≡ option_and_then (λ q. entry_at t.cols t.rows t.cells q) o
+    (option_zip (option_and_then (entry_at t.cols t.rows t.cells) o)
+    (option_and_then (entry_at t.cols t.rows steps) o))
+    ≡ option_and_then (entry_at t.cols t.rows t.cells) o
 zip_heights t steps None are = refl
 zip_heights t steps (Some q) are = zipped (height_at t q) (entry_at t.cols t.rows steps q)
     (λ h is. let n = steps_at q are (ap is_some is) in (n.0, n.1))

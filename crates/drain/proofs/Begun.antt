@@ -30,10 +30,10 @@ edge_drains t p (inr edge) = inr (inl edge)
 
 -- counts that are initial by the heights of a tile's window (`HasGapOrLower`) are sound, and 0 where
 -- the terrain has an edge cell or one with a lower neighbour
-pub begun_shown : (t : Terrain) (b : Bounds) (levels : List (Option ℤ)) (counts : List ℕ) →
-    AreEntriesShown t t.cells b levels → AreBegunSpots (HasGapOrLower b levels) b counts →
-    AreBegun t b (IsEdgeOrHasLower t) counts
-begun_shown t b levels counts on are = record {
+pub begun_shown : (t : Terrain) (w : Window (Option ℤ)) {counts : List ℕ} →
+    AreEntriesShown t t.cells w.bounds w.values.items → AreBegunSpots (HasGapOrLower w) w.bounds counts →
+    AreBegun t w.bounds (IsEdgeOrHasLower t) counts
+begun_shown t w {counts} on are = let b = w.bounds in record {
   size = are.size;
   few = λ k. elim (cases_lt k (area_of b)) [
     | inl less ↦ at_place (λ i. get_or counts i 0 ≤ no_count) (b.cols + 2) (b.rows + 2)
@@ -44,12 +44,12 @@ begun_shown t b levels counts on are = record {
       let n = count_on b counts s in
       let one = (are.each s spot (spot_below b s spot)).1.only n (known-some n less) in
       let p = inner_shows b s one.0.0 in
-      let drains = edge_drains t p.0 (shown_drains t levels on p.0 one.0.0 p.1 one.0) in
+      let drains = edge_drains t p.0 (shown_drains t w on p.0 one.0.0 p.1 one.0) in
       (p.0, p.1, simp one.1 (omega arith, [], drains, refl));
   zeros = λ s p inner shows drains.
       let spot = spot_from_inner inner in
       known_is (count_on b counts s) 0 ((are.each s spot (spot_below b s spot)).1.zero
-      (drains_shown t levels on p inner shows drains));
+      (drains_shown t w on p inner shows drains));
 }
 
 abbrev pub sink_at : List Place → ℕ → Place
@@ -82,7 +82,7 @@ before_all {t} {sinks} end {b} {counts} named all =
       | inl lower ↦ inl (inl lower)
       | inr end ↦ elim end [
         | inl edge ↦ inl (inr edge)
-        | inr sink ↦ (let is = subst (λ (xs : List Place). Contains xs p) (sym named) sink.1 in
+        | inr sink ↦ (let is = rw (← named) at sink.1 in
             inr (sink.0, is.0, omega (arith, is.1, all), is.1, is.2))
       ]
     ])

@@ -43,15 +43,14 @@ own_filled : (t : Terrain) (p : Place) → IsFilled t t.cells → IsDataCell t p
 own_filled t p filled is =
     let inside = inside_from_entry t.cols t.rows t.cells p (height_of t p) (height_is t p is) in
     let own = MatchOption-at_some _ _ (height_of t p) (height_is t p is) (filled.each p inside) in
-    subst (λ level.
-    IsFilledHeight t p level) (ap (λ (o : Option ℤ). unwrap_or o (pos 0)) (sym own.1)) own.2
+    rw (ap (λ (o : Option ℤ). unwrap_or o (pos 0)) (sym own.1)) at own.2
 
 pub some_walk : (t : Terrain) (p : Place) → IsFilled t t.cells → IsDataCell t p →
     (n : ℕ) × WalksIn t p n
 some_walk t p filled is =
     let own = own_filled t p filled is in
     let walk = walk_on t own.reached.0 p own.reached.1
-    (subst (λ z. z ≤ℤ height_of t p) (sym own.reached.2) (omega (arith, ints))) in
+    (rw own.reached.2 (omega (arith, ints))) in
     (length walk.0, (walk.0, walk.1, refl))
 
 -- either there is a shortest flat walk, or no flat walk has fewer than b moves
@@ -63,7 +62,7 @@ shortest_below t p (suc b) = elim (shortest_below t p b) [
   | inr none ↦ elim (walks_in t b p) [
     | inl w ↦ inl (b, w, none)
     | inr not_here ↦ inr (λ k h. elim (cases_eq k b) [
-      | inl e ↦ subst (λ (j : ℕ). WalksIn t p j → ⊥) (sym e) not_here
+      | inl e ↦ rw e not_here
       | inr ne ↦ none k (omega arith)
     ])
   ]

@@ -58,7 +58,7 @@ are_draining t steps codes are all = record {
             (let at = MatchOption-at_some _ _ h.0 h.1 (all.each p inside) in
             let same : code ≡ at.0 = same_Some _ _ (sym e ∙ at.1) in
             direction_leads t steps codes p code are
-            (subst (λ n. IsDirection t p n) (sym same) at.2) some)
+            (rw same (at.2)) some)
       ];
 }
 

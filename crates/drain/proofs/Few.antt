@@ -66,8 +66,7 @@ apart_on : (t : Terrain) (p : Place) (rest : List Place) → IsFlatWalk t p rest
     (length rest) → (i j : ℕ) → i < j → j < length rest + 1 → cell_on p rest i ≢ cell_on p rest j
 apart_on t p rest w s i j lt last same =
     let first = steps_on t rest p i w s (omega arith) in
-    let second = subst (λ (c : Place). IsSteps t c (length rest - j)) (sym same)
-    (steps_on t rest p j w s (omega arith)) in
+    let second = rw (← same) at (steps_on t rest p j w s (omega arith)) in
     let one : length rest - i ≡ length rest - j =
     one_number_of_steps first second in
     omega arith

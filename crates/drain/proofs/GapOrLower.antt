@@ -11,7 +11,7 @@ use Rattle.terrain.specs.declared.place.Place.{Place}
 use Rattle.terrain.proofs.EightWays.{way_to, on_ways}
 use Rattle.terrain.proofs.Heights.{height_is}
 use Rattle.terrain.proofs.Options.{cases_option, none_some}
-use Rattle.tiles.specs.declared.bounds.Bounds.{Bounds}
+use Rattle.tiles.specs.declared.window.Window.{Window}
 use Rattle.tiles.specs.Windows.{IsInner, Shows, spot_index}
 use Rattle.tiles.proofs.SpotWays.{value_on_way}
 use Rattle.drain.specs.Beginning.{IsEdgeOrHasLower, IsGapOrLower, HasGapOrLower}
@@ -36,27 +36,27 @@ no_place p way below none = elim (cases_eq p.row 0) [
 lower_at : (t : Terrain) (q : Place) (level : ℤ) (o : Option ℤ) → height_at t q ≡ o →
     height_of t q <ℤ level → IsGapOrLower level o
 lower_at t q level None e less = tt
-lower_at t q level (Some h) e less = subst (λ z. z <ℤ level) (height_is t q h e) less
+lower_at t q level (Some h) e less = rw (height_is t q h e) at less
 
 gap_at : (level : ℤ) (o : Option ℤ) → is_some o ≡ false → IsGapOrLower level o
 gap_at level None e = tt
 gap_at level (Some h) e = absurd (false≢true (sym e))
 
-module _ (t : Terrain) {b : Bounds} (levels : List (Option ℤ))
-    (on : AreEntriesShown t t.cells b levels) {s : Place} (p : Place)
-    (inner : IsInner b s) (shows : Shows b s p) where
+module _ (t : Terrain) (w : Window (Option ℤ)) (on : AreEntriesShown t t.cells w.bounds w.values.items) {s : Place}
+    (p : Place) (inner : IsInner w.bounds s) (shows : Shows w.bounds s p) where
   abbrev height_of_place : Option Place → Option ℤ
-  height_of_place o = option_and_then (λ r. entry_at t.cols t.rows t.cells r) o
+  height_of_place o = option_and_then (entry_at t.cols t.rows t.cells) o
 
   value_is : (way : ℕ) {o : Option Place} → way < 8 → place_on way p ≡ o →
-      get_or levels (get_or (around_index (b.cols + 2) (spot_index b s)) way 0) None ≡ height_of_place o
-  value_is way below e = rw e at (value_on_way b s p inner shows t.cols t.rows t.cells levels
-      (around_index (b.cols + 2) (spot_index b s)) on refl way below)
+      get_or w.values.items (get_or (around_index (w.bounds.cols + 2) (spot_index w.bounds s)) way 0) None ≡
+      height_of_place o
+  value_is way below e = rw e at (value_on_way w.bounds s p inner shows t.cols t.rows t.cells w.values.items
+      (around_index (w.bounds.cols + 2) (spot_index w.bounds s)) on refl way below)
 
-  own_is : get_or levels (spot_index b s) None ≡ height_at t p
+  own_is : get_or w.values.items (spot_index w.bounds s) None ≡ height_at t p
   own_is = (on s (spot_from_inner inner)).0 p shows
 
-  pub shown_drains : HasGapOrLower b levels s → IsEdgeOrHasLower t p
+  pub shown_drains : HasGapOrLower w s → IsEdgeOrHasLower t p
   shown_drains (_, level, here, way, below, found) =
       let high = sym own_is ∙ here in
       elim (cases_option (place_on way p)) [
@@ -78,14 +78,14 @@ module _ (t : Terrain) {b : Bounds} (levels : List (Option ℤ))
         ]
       ]
 
-  pub drains_shown : IsEdgeOrHasLower t p → HasGapOrLower b levels s
+  pub drains_shown : IsEdgeOrHasLower t p → HasGapOrLower w s
   drains_shown drains = found drains
     where
       level : ℤ
       level = height_of t p
 
       at : IsDataCell t p → (way : ℕ) (o : Option Place) → way < 8 → place_on way p ≡ o →
-          IsGapOrLower level (height_of_place o) → HasGapOrLower b levels s
+          IsGapOrLower level (height_of_place o) → HasGapOrLower w s
       at is way o below e bad = (
         inner,
         level,
@@ -96,10 +96,10 @@ module _ (t : Terrain) {b : Bounds} (levels : List (Option ℤ))
       )
 
       near : IsDataCell t p → (q : Place) → Touches p q → p ≢ q → IsGapOrLower level (height_at t q) →
-          HasGapOrLower b levels s
+          HasGapOrLower w s
       near is q touch differ bad = let way = way_to p q touch differ in at is way.0 (Some q) way.1 way.2 bad
 
-      found : IsEdgeOrHasLower t p → HasGapOrLower b levels s
+      found : IsEdgeOrHasLower t p → HasGapOrLower w s
       found (inl (q, (next, less))) = near next.from_data q next.touches next.different
           (lower_at t q level (height_at t q) refl less)
       found (inr (has, inl row)) =

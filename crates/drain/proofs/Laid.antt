@@ -55,7 +55,7 @@ module _ (t : Terrain) (p : Place) (level : ℤ) (heights : List (Option ℤ))
       (weight_on level heights way ≡ weight_of t p q) × (0 < drop_on level heights way)
   weighs q way below e (next, less) =
       let h = height_of t q in
-      let lower : h <ℤ level = subst (λ z. h <ℤ z) here less in
+      let lower : h <ℤ level = rw here at less in
       let drop : drop_on level heights way ≡ positive_part (level -ℤ h) =
       ap (drop_by level) ((rw e at (on way below)) ∙ data_height t q next.to_data) in
       let gap = int_gap h (height_of t p) in
@@ -83,7 +83,7 @@ module _ (t : Terrain) (p : Place) (level : ℤ) (heights : List (Option ℤ))
         e,
         (
           next_on_way t p q way below e (ap is_some high) (ap is_some there),
-          subst (λ z. z <ℤ height_of t p) (sym (height_is t q w.0 there)) (subst (λ z. w.0 <ℤ z) (sym here) w.2),
+          rw (height_is t q w.0 there) (rw here w.2),
         ),
       ))
 
@@ -124,7 +124,7 @@ module _ {t : Terrain} {steps : List (Option ℕ)} (p : Place) (n : ℕ) (are : 
     (is_data : IsDataCell t p) (count : entry_at t.cols t.rows steps p ≡ Some n) where
   own : IsSteps t p n
   own = let m = steps_at p are is_data in
-      subst (λ k. IsSteps t p k) (same_Some _ _ (sym m.1 ∙ count)) m.2
+      rw (same_Some _ _ (sym m.1 ∙ count)) at m.2
 
   pub without_steps : n ≡ 0 → DrainsAtOnce t p
   without_steps none = ended (DrainsAtOnce t) t p own.reached.0 own.reached.1 (own.reached.2 ∙ none)
@@ -157,7 +157,7 @@ module _ {t : Terrain} {steps : List (Option ℕ)} (p : Place) (n : ℕ) (are : 
         steepest = λ lower. absurd (stays (inl lower));
         outlet = λ _ end. absurd (stays (inr end));
         onward = λ _. points_first (IsOnward t p) p q way below e
-            (next, level, at.0, at.2, subst (λ k. IsSteps t p k) same own)
+            (next, level, at.0, at.2, rw same at own)
             (λ k r small on such. first k r small on (such_leads r such));
       }
 
@@ -244,13 +244,11 @@ module _ {t : Terrain} {steps : List (Option ℕ)} {p : Place} {a : Around} (are
   direction_by around = elim (cases_lt 0 (fold max 0 (weights a))) [
     | inl some ↦
         (let way = some_steepest has some in
-        subst (IsDirection t p) (sym (direction_down has way.0 way.1))
-        (down_is t p a.level heights laid.level on way.0 way.1))
+        rw (direction_down has way.0 way.1) (down_is t p a.level heights laid.level on way.0 way.1))
     | inr none ↦
         (let flat = flat_from has none in
         elim (cases_Bool a.edge) [
-          | inl end ↦ subst (IsDirection t p)
-              (sym (direction_flat has flat ∙ cond-true _ _ _ end))
+          | inl end ↦ rw (direction_flat has flat ∙ cond-true _ _ _ end)
               (outlet_is t p a.level heights laid.level on flat (inr (around.edge.0 end)))
           | inr off ↦
               (let stays : DrainsAtOnce t p → ⊥ = λ drains. elim drains [
@@ -261,8 +259,8 @@ module _ {t : Terrain} {steps : List (Option ℕ)} {p : Place} {a : Around} (are
               let found = position-Some (leads_on a) a.ways way.0 None way.1 in
               let below : way.0 < 8 = omega (arith, found.0, laid.count) in
               let q = leading way.0 below found.1 in
-              subst (IsDirection t p) (sym (direction_onward has way.0 flat off way.1))
-              (onward_is p a.steps are is_data laid.own_steps q.0 way.0 below q.1 q.2
+              rw (direction_onward has way.0 flat off way.1) (onward_is p a.steps are is_data laid.own_steps q.0 way.0
+              below q.1 q.2
               (λ k r small e such. elim (cases_lt k way.0) [
                 | inl less ↦ absurd (false≢true (sym (found.2 k less) ∙ leads_to k r small e such))
                 | inr after ↦ after

@@ -7,7 +7,7 @@ use Rattle.drain.specs.Codes.{IsFirstWay}
 pub more_ways : (P : ℕ → Type 0) (turn : ℕ) → turn < 8 → ((way : ℕ) → 8 - turn ≤ way → way < 8 → P way) →
     P (7 - turn) → (way : ℕ) → 8 - (turn + 1) ≤ way → way < 8 → P way
 more_ways P turn left before here way past small = elim (cases_eq way (7 - turn)) [
-  | inl e ↦ subst P (sym e) here
+  | inl e ↦ rw e here
   | inr ne ↦ before way (omega (arith, past, ne, left)) small
 ]
 

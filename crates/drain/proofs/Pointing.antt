@@ -26,13 +26,13 @@ pub way_toward : (p q : Place) (code : ℕ) → place_toward code p ≡ Some q �
     × (code ≡ code_of (Some way)) × (place_on way p ≡ Some q)
 way_toward p q code e = elim (cases_option (way_of code)) [
   | inl none ↦ absurd (none-some q
-      (sym (ap (λ (o : Option ℕ). option_and_then (λ way. place_on way p) o) none) ∙ e))
+      (sym (ap (option_and_then (λ way. place_on way p)) none) ∙ e))
   | inr way ↦
       (let found = position-Some (λ c. eqb c code) way_codes way.0 0 way.1 in (
         way.0,
         found.0,
         sym (eqb-true _ _ found.1),
-        sym (ap (λ (o : Option ℕ). option_and_then (λ way. place_on way p) o) way.1) ∙ e,
+        sym (ap (option_and_then (λ way. place_on way p)) way.1) ∙ e,
       ))
 ]
 

@@ -14,7 +14,7 @@ use Rattle.drain.specs.Steps.{DrainsAtOnce, IsWalkAtOneHeight, IsFlatWalk, IsSte
 use Rattle.drain.specs.Rounds.{IsWalked, AreWalked, IsAtMostOneAbove}
 use Rattle.drain.proofs.Counted.{has_steps}
 use Rattle.drainage.proofs.Reach.{data_inside}
-use Rattle.terrain.proofs.Options.{cases_option}
+use Rattle.terrain.proofs.Options.{cases_option, match_of}
 use Rattle.drain.proofs.Few.{steps_are_few, drains_data, data_on_walk}
 use Rattle.tiles.proofs.Cut.{tile_of_place_below}
 
@@ -22,11 +22,6 @@ pub if_some : {X : Type 0} (o : Option X) (P : X → Type 0) → ((x : X) → o 
     IfSome o P
 if_some None P h = tt
 if_some (Some x) P h = h x refl
-
-pub match_from : {X : Type 0} {P : Type 0} {Q : X → Type 0} (o : Option X) → (o ≡ None → P) →
-    ((x : X) → o ≡ Some x → Q x) → MatchOption o P Q
-match_from None p q = p refl
-match_from (Some x) p q = q x refl
 
 pub ended : (Ends : Place → Type 0) (t : Terrain) (p : Place) (rest : List Place) →
     IsWalkAtOneHeight Ends t p rest → length rest ≡ 0 → Ends p
@@ -63,7 +58,7 @@ module _ (t : Terrain) (steps : List (Option ℕ)) (zeros : HasZeros t steps)
       let real = walked p count.0 count.1 in
       let above : least.0 ≤ length real.1 = least.1.least real.1 real.2 in
       let same : least.0 ≡ count.0 = omega (arith, count.2, least.1.reached.2, real.3) in
-      (count.0, count.1, subst (λ n. IsSteps t p n) same least.1)
+      (count.0, count.1, rw same at least.1)
 
   uncounted : (p : Place) → height_at t p ≡ None → entry_at t.cols t.rows steps p ≡ None
   uncounted p none = elim (cases_option (entry_at t.cols t.rows steps p)) [
@@ -76,8 +71,8 @@ module _ (t : Terrain) (steps : List (Option ℕ)) (zeros : HasZeros t steps)
       AreSteps t steps
   still_is_steps lawful filled size = record {
     size = size;
-    each = λ p inside. match_from (height_at t p) (λ none. uncounted p none) (λ h some.
-        data_counts lawful filled p (ap is_some some));
+    each = λ p inside. match_of (height_at t p) _ _ (uncounted p)
+        (λ h some. data_counts lawful filled p (ap is_some some));
   }
 
 pub in_own_tile : (t : Terrain) (c : Cutting) (p : Place) → Cuts c t → (p.row < t.rows)

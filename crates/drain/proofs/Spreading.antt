@@ -32,7 +32,12 @@ pub spread_low : {w : Window (Option ℤ)} {old new : List ℕ} → IsSpread w o
     get_or new k 0 ≤ get_or old k 0
 spread_low same k = omega arith
 spread_low {w} (moved counts some r s before earlier level less) k =
-    omega (arith, set_low counts (spot_index w.bounds s) (count_on w.bounds some r + 1) k (omega arith), spread_low before k)
+    omega (
+      arith,
+      set_low counts (spot_index w.bounds s) (count_on w.bounds some r + 1) k (omega arith),
+      spread_low
+          before k,
+    )
 
 pub spread-length : {w : Window (Option ℤ)} {old new : List ℕ} → IsSpread w old new → length new ≡ length old
 spread-length same = refl

@@ -69,7 +69,8 @@ pub fall_next : {level : ℤ} {heights : List (Option ℤ)} {parity turn way nex
     cell ≡ get_or heights way None → other ≡ get_or heights next None → IsGreatestFall level heights parity turn way →
     (unwrap_or other no_data <ℤ unwrap_or cell no_data → IsGreatestFall level heights parity (turn + 1) next)
     × (unwrap_or cell no_data ≤ℤ unwrap_or other no_data → IsGreatestFall level heights parity (turn + 1) way)
-fall_next {level = level} {heights = heights} {parity = parity} {way = way} {next = next} is two few within cell_is other_is fall =
+fall_next {level = level} {heights = heights} {parity = parity} {way = way} {next = next} is two few within cell_is
+    other_is fall =
     let among : next % 2 ≡ parity = omega (arith, is, two) in
     rw (cell_is, other_is) (
       λ less.

@@ -51,7 +51,8 @@ is_on {X = X} cols rows entries b s o x shown is =
 count-known : (b : Bounds) (shown : List (Option ℕ)) (s : Place) →
     length shown ≡ area_of b → IsSpot b s →
     count_on b (known_counts shown) s ≡ stored (get_or shown (spot_index b s) None)
-count-known b shown s size spot = get_or-map stored shown (spot_index b s) None 0 (omega (arith, size, spot_below b s spot))
+count-known b shown s size spot = get_or-map stored shown (spot_index b s) None 0
+    (omega (arith, size, spot_below b s spot))
 
 pub some_of_known : (o : Option ℕ) (n : ℕ) → n ≡ stored o → n < no_count → o ≡ Some n
 some_of_known None n e less = absurd (omega arith)
@@ -79,9 +80,7 @@ pub sound_set : (t : Terrain) (b : Bounds) (counts : List ℕ) (r : Place) (n : 
 sound_set t b counts r n size spot sound moved_to = λ s inside less. elim (cases_place s r) [
   | inl e ↦ (let at : count_on b (set counts (spot_index b r) n) r ≡ n =
       get_or-set_same counts (spot_index b r) n 0 (omega (arith, size, spot_below b r spot)) in
-      subst (λ (x : Place). (p : Place) × Shows b x p
-      × IsWalked (DrainsAtOnce t) t p (count_on b (set counts (spot_index b r) n) x))
-      (sym e) (
+      rw e (
         moved_to.0,
         moved_to.1,
         rw at moved_to.2,
@@ -298,6 +297,11 @@ module _ (t : Terrain) {w : Window (Option ℤ)} {steps : List (Option ℕ)} {ol
           input_is t input (spot_of b q) q m there.0 there.1 e,
         )) (omega (arith, less));
     within = λ p q i j next level m e less. at_most of p (m + 1) i
-        (omega (arith, (beside p q i next level).2, known_is (count_on b new (spot_of b q)) m (sym (entry_is of q j) ∙ e)))
+        (omega (
+          arith,
+          (beside p q i next level).2,
+          known_is (count_on b new (spot_of b q)) m
+              (sym (entry_is of q j) ∙ e),
+        ))
         (omega (arith, less));
   }

@@ -21,11 +21,7 @@ use Rattle.drain.specs.Steepness.{direction_of}
 use Rattle.drain.proofs.AroundLemmas.{around_with, laid_with, steps_at}
 use Rattle.drain.proofs.Counted.{has_steps, height_is}
 use Rattle.drain.proofs.Laid.{direction_is}
-use Rattle.drainage.proofs.Reach.{is_end_cell, end_true, true_end}
-
--- the place of a row-order index
-abbrev pub place_at : ℕ → ℕ → Place
-place_at cols k = record { row = k / cols; col = k % cols }
+use Rattle.drainage.proofs.Reach.{is_end_cell, end_true, place_at, true_end}
 
 pub index-place_at : (cols i : ℕ) → index_of cols (place_at cols i) ≡ i
 index-place_at cols i = let whole : cols * (i / cols) + i % cols ≡ i = div-add-mod i cols in
@@ -44,7 +40,7 @@ at_place P cols rows each i h =
     let some : 1 ≤ cols = some_cols cols rows i h in
     let row : i / cols < rows = div_below i cols rows some (omega arith) in
     let col : i % cols < cols = mod_below i cols some in
-    subst P (index-place_at cols i) (each (place_at cols i) row col)
+    rw (index-place_at cols i) at (each (place_at cols i) row col)
 
 -- two lists of a grid's size with equal entries at each place are equal
 pub same_entries : {X : Type 0} (cols rows : ℕ) (xs ys : List (Option X)) →

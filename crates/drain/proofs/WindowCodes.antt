@@ -38,7 +38,7 @@ use Rattle.terrain.proofs.Places.{entry-inside}
 use Rattle.std.proofs.lemmas.Option.{get_or_from_slice_get, option_and_then_some, slice_get_within}
 
 fits_on : (t : Terrain) (o : Option Place) → IsTerrain t →
-    IfSome (option_and_then (λ q. entry_at t.cols t.rows t.cells q) o) IsHeight
+    IfSome (option_and_then (entry_at t.cols t.rows t.cells) o) IsHeight
 fits_on t None lawful = tt
 fits_on t (Some q) lawful =
     if_some (height_at t q) IsHeight (λ h e. height_in t q h lawful e)
@@ -188,9 +188,9 @@ module _ {t : Terrain} {all : List (Option ℕ)} {p : Place} {cells : List (Opti
     still around,
     λ are. code_is t p level code is.high (elim (cases_lt 0 own) [
       | inl some ↦ (let by = flat some in
-          subst (IsDirection t p) (sym by.1) (onward are by.0 by.2 some))
+          rw by.1 (onward are by.0 by.2 some))
       | inr none ↦ (let zero : own ≡ 0 = omega arith in let by = steep zero in
-          subst (IsDirection t p) (sym by.3) (down are by.0 by.1 by.2 by.4 zero))
+          rw by.3 (down are by.0 by.1 by.2 by.4 zero))
     ]),
   )
 
@@ -221,7 +221,7 @@ checked_all c outs (LastCodes lists) size given all =
           let is : get_or outs k (Codes list) ≡ Codes list =
           ap (λ (xs : List TileCodes). get_or xs k (Codes list)) all
           ∙ get_or-map (λ (l : Vec (Option ℕ) Global). Codes l) lists.items k list (Codes list) below
-          ∙ ap (λ (l : Vec (Option ℕ) Global). Codes l) (get_or_from_slice_get lists.items k list list at) in
+          ∙ ap Codes (get_or_from_slice_get lists.items k list list at) in
           rw is at (given k (Codes list) (omega (arith, below, same, size)))),
     )
 checked_all c outs (LastTooHigh change) size given all =

@@ -7,10 +7,11 @@ use Rattle.terrain.specs.Raster.{Terrain}
 use Rattle.terrain.specs.Ways.{around_index}
 use Rattle.terrain.specs.declared.place.Place.{Place}
 use Rattle.tiles.specs.declared.bounds.Bounds.{Bounds}
+use Rattle.tiles.specs.declared.window.Window.{Window}
 use Rattle.tiles.specs.Cutting.{Cutting, IsInTile, cell_count, tile_count, tile_entry}
 use Rattle.drain.specs.Steps.{HasLower, DrainsAtOnce}
 use Rattle.drain.specs.Rounds.{IsRound, IsWalked}
-use Rattle.drain.specs.Search.{AreAtMostNoCount, count_on, level_on}
+use Rattle.drain.specs.Search.{AreAtMostNoCount, count_on, height_on}
 use Rattle.tiles.specs.Windows.{AreMadeSpots, IsInner, IsSpot, Shows, area_of, spot_index}
 use Rattle.drainage.specs.StepCounts.{known, no_count}
 
@@ -35,10 +36,10 @@ pub record AreInitialCounts (t : Terrain) (counts : List (Option ℕ)) : Type 0 
       IsInitialCount (DrainsAtOnce t) p (entry_at t.cols t.rows counts p)
 
 -- The spot lies in the tile and has data. A spot around it has no data or a lower height.
-abbrev pub HasGapOrLower : Bounds → List (Option ℤ) → Place → Type 0
-HasGapOrLower b levels s = IsInner b s × (level : ℤ) × (level_on b levels s ≡ Some level)
-    × (way : ℕ) × (way < 8) × IsGapOrLower level (slice_index_or levels
-    (slice_index_or (around_index (b.cols + 2) (spot_index b s)) way 0) None)
+abbrev pub HasGapOrLower : Window (Option ℤ) → Place → Type 0
+HasGapOrLower w s = IsInner w.bounds s × (level : ℤ) × (height_on w s ≡ Some level)
+    × (way : ℕ) × (way < 8) × IsGapOrLower level (slice_index_or w.values.items
+    (slice_index_or (around_index (w.bounds.cols + 2) (spot_index w.bounds s)) way 0) None)
 
 -- `count` is the initial count at spot s: 0 if `Drains` holds for the spot, else unknown. Spots are
 -- the places of a tile's window: the tile and one row or column on each side.

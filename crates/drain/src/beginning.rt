@@ -49,7 +49,7 @@ fn any_gap_or_lower(cells: &[Cell], at: &[usize; 8], level: Height) -> bool
 #[inline(always)]
 fn initial_count(window: &Window<Cell>, spot: Place) -> u32
     requires { IsSpot window.now.bounds spot }
-    ensures { IsBegunSpot (HasGapOrLower window.now.bounds window.now.values.items) spot result }
+    ensures { IsBegunSpot (HasGapOrLower window.now) spot result }
 {
     if !window.is_inner(spot) {
         return NO_COUNT;
@@ -68,10 +68,10 @@ fn initial_count(window: &Window<Cell>, spot: Place) -> u32
 /// Appends the initial counts of one window row, without regard to sinks.
 fn begin_along(window: &Window<Cell>, row: u32, counts: &mut Vec<u32>) -> Result<(), AllocError>
     requires row { row < window.now.bounds.rows + 2 }
-    requires counts { AreBegunUpTo (HasGapOrLower window.now.bounds window.now.values.items)
-        window.now.bounds (row * (window.now.bounds.cols + 2)) counts.old.items }
-    ensures { OnOk result (AreBegunUpTo (HasGapOrLower window.now.bounds window.now.values.items)
-        window.now.bounds ((row + 1) * (window.now.bounds.cols + 2)) counts.new.items) }
+    requires counts { AreBegunUpTo (HasGapOrLower window.now) window.now.bounds
+        (row * (window.now.bounds.cols + 2)) counts.old.items }
+    ensures { OnOk result (AreBegunUpTo (HasGapOrLower window.now) window.now.bounds
+        ((row + 1) * (window.now.bounds.cols + 2)) counts.new.items) }
 {
     for col in 0..window.bounds.cols + 2 {
         counts.push(initial_count(window, Place { row, col }))?;

@@ -10,7 +10,7 @@ loop-col-preserved c =
     let w = c.args.window.now in
     let b = w.bounds in
     let s = make_place c.args.row c.loop-col.col in
-    let more = made_push (IsBegunSpot (HasGapOrLower b w.values.items)) b s 0
+    let more = made_push (IsBegunSpot (HasGapOrLower w)) b s 0
     c.loop-col.counts.items c.initial_count.result (c.requires.row, c.loop-col-test.true)
     c.loop-col.invariant c.initial_count.ensures in
     let next : spot_index b s + 1 ≡ c.args.row * (b.cols + 2) + (c.loop-col.col + 1) =

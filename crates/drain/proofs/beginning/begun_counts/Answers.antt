@@ -10,8 +10,7 @@ begin_at_sinks-requires c =
     let last : c.loop-row.row ≡ b.rows + 2 = omega arith in
     let end = ap (λ (n : ℕ). n * (b.cols + 2)) last in
     rw c.deref_mut.ensures.value
-    (begun_shown c.args.grid.now.terrain b c.args.window.now.values.items c.loop-row.counts.items
-    c.requires (record {
+    (begun_shown c.args.grid.now.terrain c.args.window.now c.requires (record {
       size = omega (arith, inv.size, end);
       each = λ s spot below. inv.each s spot (omega (arith, below, end));
     }))

@@ -1,10 +1,8 @@
-use Rattle.std.proofs.Common.{rules, ◌+◌, ◌<◌, ◌∙◌, ℤ, None, length, get_or, sym, subst, arith, to_z-of_z}
+use Rattle.std.proofs.Common.{rules, ◌<◌, ◌∙◌, length, sym, arith, to_z-of_z}
 use Rattle.std.proofs.lemmas.Option.{none-some, same_Some}
 use mir.Val.{SFits}
 use Rattle.terrain.proofs.Heights.{height_width}
-use Rattle.terrain.specs.Ways.{around_index}
 use Rattle.tiles.specs.Windows.{spot_index}
-use Rattle.drain.specs.Beginning.{IsGapOrLower}
 use Rattle.drain.proofs.Reading.{read_is}
 use Rattle.drain.proofs.beginning.initial_count.Goals as goal
 

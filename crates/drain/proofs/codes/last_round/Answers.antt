@@ -1,4 +1,4 @@
-use Rattle.std.proofs.Common.{◌≡◌, ℕ, ◌<◌, length, sym, ap, subst, ◌∙◌, arith}
+use Rattle.std.proofs.Common.{◌≡◌, length, ap, ◌∙◌, arith}
 use Rattle.tiles.specs.Cutting.{tile_count}
 use Rattle.drain.specs.Counts.{Counted}
 use Rattle.drain.proofs.WindowCodes.{checked_all}

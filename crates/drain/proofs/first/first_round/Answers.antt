@@ -19,4 +19,5 @@ returns-in-Ok-clause-counts g c =
     let count : length lists.items ≡ tile_count v =
     omega (arith, lists.ok.0, c.in_ok-lists.ensures.len) ∙ c.tiles.ensures.value in
     first_counts c.args.grid.now.terrain v lists.items c.requires count (λ j d below.
-    c.in_ok-lists.ensures.given j d (rw c.tiles.ensures.value below)) c.tiles.ensures.lawful (rw c.deref.ensures.value at c.in-Ok.ensures)
+    c.in_ok-lists.ensures.given j d (rw c.tiles.ensures.value below)) c.tiles.ensures.lawful
+    (rw c.deref.ensures.value at c.in-Ok.ensures)

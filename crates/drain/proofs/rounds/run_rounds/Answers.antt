@@ -1,4 +1,4 @@
-use Rattle.std.proofs.Common.{ℕ, List, Option, ap, arith}
+use Rattle.std.proofs.Common.{ap, arith}
 use Rattle.std.proofs.lemmas.List.{with_items_is}
 use Rattle.drain.specs.Counts.{count_sum}
 use Rattle.drain.proofs.rounds.run_rounds.Goals as goal
@@ -24,8 +24,8 @@ loop-changes-preserved g c =
     let put = c.put_all.ensures in
     let whole = with_items_is steps c.put_all.new.steps
     (omega (arith, put.counts.size, inv.counts.size, steps.ok.0)) in
-    let sum = ap (λ (ss : List (Option ℕ)). count_sum ss) whole in
-    let before = ap (λ (ss : List (Option ℕ)). count_sum ss) c.deref_mut.ensures.value in
+    let sum = ap count_sum whole in
+    let before = ap count_sum c.deref_mut.ensures.value in
     record {
       counts = rw whole put.counts;
       changes = rw (c.new-input.ensures.value, c.deref-in-loop-changes-3.ensures.value) at c.in_ok-changes.ensures;

@@ -1,7 +1,6 @@
-use Rattle.std.proofs.Common.{◌≡◌, ◌<◌, ◌∙◌, ℕ, inl, inr, List, length, sum, sym, subst, arith}
+use Rattle.std.proofs.Common.{◌≡◌, ◌<◌, ◌∙◌, inl, inr, length, sym, arith}
 use Rattle.std.proofs.lemmas.Bool.{cases_eq, eq-eqb, false≢true}
 use Rattle.std.proofs.lemmas.List.{take_at}
-use Rattle.drain.specs.Search.{AreAtMostNoCount, IsSpread}
 use Rattle.drain.proofs.Spreading.{spread_counts, spread-length, spread_on, sum_spread}
 use Rattle.drain.proofs.search.lowered.Goals as goal
 

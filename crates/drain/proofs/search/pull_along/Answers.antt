@@ -1,8 +1,6 @@
-use Rattle.std.proofs.Common.{inl, inr, sym, subst, arith}
+use Rattle.std.proofs.Common.{inl, inr, arith}
 use Rattle.std.proofs.lemmas.Bool.{cases_eq}
 use Rattle.terrain.proofs.Places.{make_place, same_place}
-use Rattle.terrain.specs.declared.place.Place.{Place}
-use Rattle.drain.specs.Search.{IsNear}
 use Rattle.drain.proofs.search.pull_along.Goals as goal
 
 pub loop-col-init : goal.loop-col-init

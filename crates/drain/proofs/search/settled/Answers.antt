@@ -1,6 +1,6 @@
-use Rattle.std.proofs.Common.{◌∙◌, ℕ, List, ap, length, sym, subst}
+use Rattle.std.proofs.Common.{◌∙◌}
 use Rattle.std.proofs.lemmas.Option.{MatchOption-at_some}
-use Rattle.drain.specs.Search.{AreAtMostNoCount, same}
+use Rattle.drain.specs.Search.{same}
 use Rattle.drain.proofs.Spreading.{spread_counts, spread-length, spread_on}
 use Rattle.drain.proofs.search.settled.Goals as goal
 

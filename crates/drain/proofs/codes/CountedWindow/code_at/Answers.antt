@@ -1,11 +1,11 @@
-use Rattle.std.proofs.Common.{is_some, sym, ap, subst, ◌∙◌, arith, rules, to_z-of_z}
+use Rattle.std.proofs.Common.{is_some, sym, ap, ◌∙◌, arith, rules, to_z-of_z}
 use mir.Val.{SFits}
 use Rattle.std.proofs.lemmas.Bool.{false≢true}
 use Rattle.terrain.proofs.Heights.{height_in, height_width}
 use Rattle.terrain.specs.declared.place.Place.{Place}
 use Rattle.tiles.proofs.SpotWays.{inner_shows}
 use Rattle.tiles.specs.Windows.{Shows}
-use Rattle.drain.specs.Codes.{CountedSpots, AreCountedSpots}
+use Rattle.drain.specs.Codes.{CountedSpots}
 use Rattle.drain.proofs.WindowCodes.{IsSeen, checked, code_none, heights_within, lower, seen, shown_height}
 use Rattle.drain.proofs.codes.CountedWindow.code_at.Goals as goal
 use Rattle.drain.proofs.codes.CountedWindow.code_at.Goals.{After-deref-2}

@@ -1,17 +1,17 @@
-use Rattle.std.proofs.Common.{◌≡◌, ◌≢◌, ◌+◌, ◌^◌, ◌<◌, ℕ, List, Option, None, get_or, length, unwrap_or, ap, subst, ◌∙◌, arith}
+use Rattle.std.proofs.Common.{◌≡◌, ◌≢◌, ◌+◌, ◌<◌, ℕ, List, Option, None, get_or, length, ap, ◌∙◌, arith}
 use Rattle.std.proofs.lemmas.Bool.Decides.{nat_tests}
 use Rattle.std.proofs.lemmas.List.{get_or_default}
 use Rattle.terrain.specs.Neighbours.{index_of}
 use Rattle.terrain.specs.declared.place.Place.{Place}
 use Rattle.drain.specs.Search.{stored}
-use Rattle.drain.specs.Counts.{Counted, IsCountedTerrain, count_of}
+use Rattle.drain.specs.Counts.{Counted, count_of}
 use Rattle.drain.proofs.Sound.{lower_change}
 use Rattle.drain.proofs.input.RoundInput.lower.Goals as goal
 
 pub returns-then-ne-clause-change : goal.returns-then-ne-clause-change
 returns-then-ne-clause-change c =
     let input = c.args.self.now in
-    let counted = subst (λ (v : Counted). IsCountedTerrain v) c.self.view_is c.self.invariant.1 in
+    let counted = rw c.self.view_is at c.self.invariant.1 in
     let steps = c.self.inside.steps.now in
     let same : steps ≡ input.steps = ap (λ (v : Counted). v.steps) c.self.view_is in
     let differ : c.args.to ≢ c.args.from.place = λ e.

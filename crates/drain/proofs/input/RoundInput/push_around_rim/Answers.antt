@@ -2,13 +2,12 @@ use Rattle.std.proofs.Common.{List, suc, sym, subst, refl, arith}
 use Rattle.std.specs.Prelude.{Contains}
 use Rattle.terrain.specs.declared.place.Place.{Place}
 use Rattle.tiles.proofs.Members.{Contains-from_rim_places}
-use Rattle.drain.specs.Counts.{Counted, IsCountedTerrain}
 use Rattle.drain.proofs.input.RoundInput.push_around_rim.Goals as goal
 
 pub push_around-requires-clause-place : goal.push_around-requires-clause-place
 push_around-requires-clause-place c =
     let input = c.args.self.now in
-    let cuts = (subst (λ (v : Counted). IsCountedTerrain v) c.self.view_is c.self.invariant.1).cuts in
+    let cuts = (rw c.self.view_is at c.self.invariant.1).cuts in
     let next = subst (λ (ps : List Place). Contains ps c.in-Some.place) (sym c.in-Some.ensures.steps)
     (0, omega arith, refl) in
     let rim = c.loop-place.invariant.left c.in-Some.place next in
