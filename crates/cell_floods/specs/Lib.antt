@@ -1,4 +1,5 @@
 pub mod Cells
 pub mod TileFlood
 pub mod Labels
+pub mod Levels
 pub mod Spreading

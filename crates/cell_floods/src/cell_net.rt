@@ -3,7 +3,7 @@
 //! A border of cells without data gives each cell of the rectangle eight cells around it. A data
 //! cell beside a cell without data is a source: paths end there. So the border makes all data cells
 //! on the rim sources.
-ghost use Rattle.std.specs.Prelude.{◌≡◌, None, ◌+◌, ◌-◌, ◌*◌, ◌^◌, ◌<◌, ◌≤◌, ◌∷◌, ◌↔◌, [], EachIndex, IsSome, IsTrue, length, All, IfOk, OnOk, is_none, slice_index_or};
+ghost use Rattle.std.specs.Prelude.{◌≡◌, None, ◌+◌, ◌-◌, ◌*◌, ◌^◌, ◌<◌, ◌≤◌, ◌∷◌, ◌↔◌, [], EachIndex, IsSome, IsTrue, length, All, IfOk, OnOk, is_none, slice_index_or, slice_range};
 ghost use Rattle.std.specs.List.{list_any, filter_map, cons_option};
 ghost use Rattle.std.specs.Bool.{OnTrue};
 ghost use Rattle.floods.specs.Walk.{HasNoSource};
@@ -286,6 +286,22 @@ impl CellNet {
     }
 }
 
+/// Returns the entries of a row inside the border, of a list over a [`CellNet`]'s nodes.
+/// `cols` and `rows` are the size of the rectangle without its border.
+#[inline(always)]
+pub(crate) fn inner_row<T>(list: &[T], cols: u32, rows: u32, row: u32) -> &[T]
+    requires size { length list.now ≡ (rows + 2) * (cols + 2) }
+    requires few_cols { cols ≤ 4096 }
+    requires few_rows { rows ≤ 4096 }
+    requires row { row < rows }
+    ensures { result.now ≡ slice_range list.now ((row + 1) * (cols + 2) + 1)
+        ((row + 1) * (cols + 2) + 1 + cols) }
+{
+    let width = cols as usize;
+    let start = (row as usize + 1) * (width + 2) + 1;
+    &list[start..start + width]
+}
+
 /// Returns a list over a [`CellNet`]'s nodes without the border's entries.
 /// `cols` and `rows` are the size of the rectangle without its border.
 pub(crate) fn without_border<T: Copy>(
@@ -299,12 +315,9 @@ pub(crate) fn without_border<T: Copy>(
     requires few_rows { rows ≤ 4096 }
     ensures { IfOk result (λ v. v.items ≡ inner_rows list.now cols rows) }
 {
-    let width = cols as usize;
-    let stride = width + 2;
-    let mut inner = Vec::with_capacity(alloc, rows as usize * width)?;
+    let mut inner = Vec::with_capacity(alloc, rows as usize * cols as usize)?;
     for row in 0..rows {
-        let start = (row as usize + 1) * stride + 1;
-        inner.extend_from_slice(&list[start..start + width])?;
+        inner.extend_from_slice(inner_row(list, cols, rows, row))?;
     }
     Ok(inner)
 }

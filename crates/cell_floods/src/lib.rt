@@ -10,6 +10,7 @@
 //! - `tile`: the flood of one tile
 //! - `whole`: the flood of a whole grid
 //! - `labels`: the table of a tile's labels
+//! - `levels`: the levels of a tile's cells, in as few bytes as fit
 //! - `ends`: which labels are end cells
 //! - `spreading`: the flood of a net from its lowest cells up
 //! - `node_order`: the nodes of a net by height
@@ -20,6 +21,7 @@
 mod cell_net;
 mod ends;
 mod labels;
+mod levels;
 mod node_order;
 mod sinks;
 mod spreading;
@@ -28,5 +30,6 @@ mod whole;
 
 pub use cell_net::CellNet;
 pub use labels::Labels;
+pub use levels::Levels;
 pub use tile::{TileFlood, tile_flood};
 pub use whole::filled_heights;

@@ -19,7 +19,7 @@ ghost use Rattle.cell_floods.specs.Cells.{IsCellJoin, source_of};
 ghost use Rattle.cell_floods.specs.Spreading.{HasSources, IsPartFlood, Reaches, Spreads, level_of};
 
 use crate::cell_net::CellNet;
-use crate::node_order::nodes_by_height;
+use crate::node_order::{first_height, nodes_by_height};
 use floods::Net;
 use std::alloc::{AllocError, Global};
 use terrain::{Cell, Height};
@@ -32,6 +32,8 @@ const NO_LABEL: u32 = u32::MAX;
 pub(crate) struct NodeFlood {
     pub(crate) levels: Vec<Cell>,
     pub(crate) labels: Vec<u32>,
+    /// The lowest height.
+    pub(crate) lowest: Height,
 }
 
 /// The levels and labels of a net's nodes while the labelled ones spread.
@@ -217,5 +219,6 @@ pub(crate) fn flood_by_height(alloc: Global, net: &CellNet) -> Result<Option<Nod
     Ok(Some(NodeFlood {
         levels: spreading.levels,
         labels: spreading.labels,
+        lowest: first_height(net.cells(), &order),
     }))
 }

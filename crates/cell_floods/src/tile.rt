@@ -1,8 +1,7 @@
 //! Finds the level and the label of each data cell of one tile: [`tile_flood`].
-ghost use Rattle.std.specs.Prelude.{◌≡◌, IfOk, length, map, true, false, MatchOption, None, is_none, slice_index_or, ◌<◌};
+ghost use Rattle.std.specs.Prelude.{◌≡◌, IfOk, length, true, false, MatchOption, None, is_none, slice_index_or, ◌<◌};
 ghost use Rattle.terrain.specs.Sinks.{with_sinks};
 ghost use Rattle.tiles.specs.Cutting.{terrain_of, is_in_bounds, index_in};
-ghost use Rattle.floods.specs.Notes.{height_or_lack};
 ghost use Rattle.cell_floods.specs.Labels.{labels_by};
 ghost use Rattle.cell_floods.specs.Spreading.{AreFlooded, HasSizeOf};
 ghost use Rattle.cell_floods.specs.TileFlood.{IsFlood, IsTileFlood, level_in, label_in, levels_where};
@@ -10,9 +9,10 @@ ghost use Rattle.cell_floods.specs.TileFlood.{IsFlood, IsTileFlood, level_in, la
 use crate::cell_net::{CellNet, without_border};
 use crate::ends::end_heights;
 use crate::labels::{Labels, labels_of};
-use crate::spreading::flood_by_height;
+use crate::levels::Levels;
+use crate::spreading::{NodeFlood, flood_by_height};
 use floods::{FloodedNet, flood_net};
-use std::alloc::{AllocError, Global};
+use std::alloc::Global;
 use std::marker::Model;
 use terrain::{Cell, Height, NoMemory, Place};
 use tiles::{Bounds, TileView};
@@ -24,11 +24,11 @@ use tiles::{Bounds, TileView};
 pub struct TileFlood {
     bounds: Bounds,
     /// An entry for each cell: its level, if it has a label.
-    heights: Vec<Height>,
+    heights: Levels,
     labels: Labels,
     /// For each entry of the table of labels: the height of an end cell, else no data.
     ends: Vec<Cell>,
-    ghost whole: { length heights.items ≡ length labels.indexes },
+    ghost whole: { length heights ≡ length labels.indexes },
 }
 
 impl Model for TileFlood {
@@ -36,9 +36,9 @@ impl Model for TileFlood {
 
     ghost Value = { Flood };
 
-    ghost view = { λ f. flood_of f.bounds f.heights.items f.labels f.ends.items };
+    ghost view = { λ f. flood_of f.bounds f.heights f.labels f.ends.items };
 
-    ghost invariant = { λ f. IsFlood (flood_of f.bounds f.heights.items f.labels f.ends.items) };
+    ghost invariant = { λ f. IsFlood (flood_of f.bounds f.heights f.labels f.ends.items) };
 }
 
 impl TileFlood {
@@ -92,7 +92,7 @@ impl TileFlood {
         ensures label { is_none result ≡ is_none (slice_index_or self.now.labels index None) }
     {
         if self.labels.has(index) {
-            Some(self.heights[index])
+            Some(self.heights.at(index))
         } else {
             None
         }
@@ -111,7 +111,7 @@ impl TileFlood {
     /// Returns the levels of the tile's cells, in its row order.
     /// The entry of a cell without a label is not a level.
     #[inline(always)]
-    pub fn heights(&self) -> &[Height]
+    pub fn heights(&self) -> &Levels
         ensures levels { self.now.levels ≡ levels_where self.now.labels result.now }
         ensures size { length result.now ≡ length self.now.labels }
     {
@@ -142,31 +142,21 @@ impl TileFlood {
 /// The levels and labels of a net's nodes inside its border.
 #[derive(Drop)]
 struct InnerFlood {
-    heights: Vec<Height>,
+    heights: Levels,
     /// The number that stores each cell's label, a node of the net.
     nodes: Vec<u32>,
-}
-
-/// Returns the number of each cell, [`NO_DATA`](terrain::NO_DATA) for one without data.
-fn numbers(alloc: Global, cells: &[Cell]) -> Result<Vec<Height>, AllocError>
-    ensures { IfOk result (λ v. v.items ≡ map height_or_lack cells.now) }
-{
-    let mut numbers = Vec::with_capacity(alloc, cells.len())?;
-    for cell in cells {
-        numbers.push(cell.number())?;
-    }
-    Ok(numbers)
 }
 
 /// Floods a tile's net by the queue of [`flood_net`], which needs no certificate.
 #[inline(never)]
 fn flood_by_queue(alloc: Global, net: &CellNet, bounds: Bounds) -> Result<InnerFlood, NoMemory>
     requires { HasSizeOf bounds net.now }
-    ensures { IfOk result (λ f. AreFlooded net.now bounds f.heights.items f.nodes.items) }
+    ensures { IfOk result (λ f. AreFlooded net.now bounds f.heights f.nodes.items) }
 {
     let FloodedNet { levels, labels } = flood_net(alloc, net)?;
+    let heights = without_border(alloc, levels.heights(), bounds.cols, bounds.rows)?;
     Ok(InnerFlood {
-        heights: without_border(alloc, levels.heights(), bounds.cols, bounds.rows)?,
+        heights: Levels::of_heights(heights),
         nodes: without_border(alloc, labels.numbers(), bounds.cols, bounds.rows)?,
     })
 }
@@ -174,15 +164,19 @@ fn flood_by_queue(alloc: Global, net: &CellNet, bounds: Bounds) -> Result<InnerF
 /// Floods the net of a tile with these bounds: by height, or by the queue if that has no result.
 fn inner_flood(alloc: Global, net: &CellNet, bounds: Bounds) -> Result<InnerFlood, NoMemory>
     requires { HasSizeOf bounds net.now }
-    ensures { IfOk result (λ f. AreFlooded net.now bounds f.heights.items f.nodes.items) }
+    ensures { IfOk result (λ f. AreFlooded net.now bounds f.heights f.nodes.items) }
 {
     let Some(found) = flood_by_height(alloc, net)? else {
         return flood_by_queue(alloc, net, bounds);
     };
-    let levels = without_border(alloc, &found.levels, bounds.cols, bounds.rows)?;
+    let NodeFlood {
+        levels,
+        labels,
+        lowest,
+    } = found;
     Ok(InnerFlood {
-        heights: numbers(alloc, &levels)?,
-        nodes: without_border(alloc, &found.labels, bounds.cols, bounds.rows)?,
+        heights: Levels::of_nodes(alloc, &levels, lowest, bounds.cols, bounds.rows)?,
+        nodes: without_border(alloc, &labels, bounds.cols, bounds.rows)?,
     })
 }
 

@@ -1,6 +1,6 @@
 -- A cell's raised height is the greater of its level and its label's least crest. It is the cell's
 -- filled height, and all tiles together give the filled grid.
-use Rattle.std.proofs.Common.{◌≡◌, ℕ, ◌+◌, ◌*◌, ◌<◌, ◌≤◌, ◌⊎◌, inl, inr, ℤ, List, [], ◌∷◌, ◌++◌, length, get_or, map, Option, None, Some, is_some, ◌∙◌, sym, ap, subst, refl, arith, zero, suc, ◌/◌, ◌%◌, IfSome, MatchOption, mul_comm, pos, Vec, Global}
+use Rattle.std.proofs.Common.{◌≡◌, ℕ, ◌+◌, ◌*◌, ◌<◌, ◌≤◌, ◌⊎◌, inl, inr, ℤ, List, [], ◌∷◌, ◌++◌, length, get_or, Option, None, Some, is_some, ◌∙◌, sym, ap, subst, refl, arith, zero, suc, ◌/◌, ◌%◌, IfSome, MatchOption, mul_comm, pos, Vec, Global}
 use Rattle.std.specs.Prelude.{slice_get, option_and_then, option_map}
 use Rattle.std.specs.Int.{int_max}
 use Rattle.std.specs.Ordering.{int_eq}
@@ -22,8 +22,8 @@ use Rattle.tiles.specs.declared.bounds.Bounds.{Bounds}
 use Rattle.tiles.specs.Cutting.{Cutting, IsCutting, IsInBounds, IsInTile, IsWithin, bounds_of, cell_count, tile_count, tile_entry, tile_of_place, Cuts, View, terrain_of, index_in}
 use Rattle.tiles.proofs.Cut.{bounds_inside, in_bounds, in_tile, tile_of_place_below}
 use Rattle.tiles.proofs.TileOrder.{tile_entry-in, entry_in-inside, index_in_below}
-use Rattle.cell_floods.specs.TileFlood.{Flood, level_in, label_in, IsTileFlood, levels_where}
-use Rattle.fill.specs.SpillGraph.{IsListOf, AreFloods, level_among, label_among, AreLeastCrests, crest_of, greater_of, raised_by, AreGreater, IsRaised, IsFilledTile, IsGraphOf, IsPass, Graph, HasJoin, source_in}
+use Rattle.cell_floods.specs.TileFlood.{Flood, level_in, label_in, IsTileFlood}
+use Rattle.fill.specs.SpillGraph.{IsListOf, AreFloods, level_among, label_among, AreLeastCrests, crest_of, greater_of, raised_by, IsRaised, IsFilledTile, IsGraphOf, IsPass, Graph, HasJoin, source_in}
 use Rattle.fill.specs.RaisedTiles.{AreTileRuns, HasTile, IsRaisedTile, raised_among, raised_cell, crest_with, crest_at}
 use Rattle.fill.specs.RaisedRuns.{AreAllRaised, IsInTiles, IsPatched}
 use Rattle.fill.specs.declared.raised_runs.RaisedRun.{RaisedRun}
@@ -35,8 +35,7 @@ use Rattle.fill.proofs.CellLabels.{entry_cell_label, label_entry}
 use Rattle.fill.proofs.Numbered.{AreLawful, fit_of, has_cell_label, number_below, number_among, number_net}
 use Rattle.fill.specs.declared.raised_tiles.RaisedTile.{RaisedTile}
 use Rattle.fill.specs.Gathering.{Fit, cell_label_among, cell_label_of, cell_label_with}
-use Rattle.cell_floods.specs.Labels.{labels_by, IsTable}
-use Rattle.cell_floods.proofs.Where.{levels_where-length, levels_where-at}
+use Rattle.cell_floods.proofs.Where.{levels_where-at}
 use Rattle.fill.proofs.Gathered.{labels_within}
 use Rattle.cell_floods.proofs.TileRectangles.{data_within}
 use Rattle.terrain.proofs.Options.{cases_option, match_of, none_some}
@@ -73,69 +72,6 @@ pub all_entries : (entry : ℕ → Option ℤ) (i count : ℕ) (list : List (Opt
     → i ≤ count → count ≤ i → IsListOf entry i list → IsListOf entry count list
 all_entries entry i count list below past s =
     subst (λ n. IsListOf entry n list) (omega (arith, below, past)) s
-
--- The raised height does not change, if the level is made None where there is no label.
-raised_where : (c : Cutting) (levels : List (Option ℤ)) (height : ℤ) (label : Option Place) →
-    greater_of (Some height) (crest_of c levels label)
-    ≡ raised_by c levels (option_map (λ _. height) label) label
-raised_where c levels height None = refl
-raised_where c levels height (Some p) = refl
-
--- `heights`, `labels` and `crests` give each cell the raised height that `f` and `levels` give.
-pub record IsRaisedBy (c : Cutting) (f : Flood) (levels : List (Option ℤ)) (heights : List ℤ)
-    (labels : List ℕ) (crests : List (Option ℤ)) : Type 0 where
-  pub heights_size : length heights ≡ length f.labels
-  pub labels_size : length labels ≡ length f.labels
-  pub inside : All (λ k. k < length crests) labels
-  pub each : (i : ℕ) → i < length f.labels →
-      greater_of (Some (get_or heights i (pos 0))) (get_or crests (get_or labels i 0) None)
-      ≡ raised_by c levels (get_or f.levels i None) (get_or f.labels i None)
-
--- `IsRaisedBy` holds where `crests` has the least crest of each label of the tile's table.
-by_table : (c : Cutting) (f : Flood) (places : List (Option Place)) (cells : List ℕ)
-    (heights : List ℤ) (levels crests : List (Option ℤ)) → f.labels ≡ labels_by places cells →
-    IsTable places cells
-    → f.levels ≡ levels_where f.labels heights → length cells ≡ length heights →
-    crests ≡ map (crest_of c levels) places → IsRaisedBy c f levels heights cells crests
-by_table c f places cells heights levels crests are table where_is long is = record {
-  heights_size = sym fit;
-  labels_size = long ∙ sym fit;
-  inside = λ i d low.
-      omega (arith, table.inside i d low, ap length is, length-map places (crest_of c levels));
-  each = λ i low.
-      let inside : i < length cells = omega (arith, low, long, fit) in
-      let crest : get_or crests (get_or cells i 0) None
-      ≡ crest_of c levels (get_or f.labels i None) =
-      ap (λ (z : List (Option ℤ)). get_or z (get_or cells i 0) None) is
-      ∙ get_or-map (crest_of c levels) places (get_or cells i 0) None None (table.inside i 0 inside)
-      ∙ ap (crest_of c levels) (sym (get_or-map (λ k. get_or places k None) cells i 0 None inside)
-      ∙ ap (λ (z : List (Option Place)). get_or z i None) (sym are)) in
-      let level : get_or f.levels i None
-      ≡ option_map (λ _. get_or heights i (pos 0)) (get_or f.labels i None) =
-      ap (λ (z : List (Option ℤ)). get_or z i None) where_is
-      ∙ levels_where-at f.labels heights i fit in
-      ap (greater_of (Some (get_or heights i (pos 0)))) crest
-      ∙ raised_where c levels (get_or heights i (pos 0)) (get_or f.labels i None)
-      ∙ ap (λ z. raised_by c levels z (get_or f.labels i None)) (sym level);
-}
-  where
-    fit : length f.labels ≡ length heights
-    fit = ap length are ∙ length-map cells (λ k. get_or places k None) ∙ long
-
-pub raised_by_table : (c : Cutting) (f : Flood) (places : List (Option Place))
-    (cells : List ℕ) (heights : List ℤ) (levels crests raised : List (Option ℤ)) →
-    f.labels ≡ labels_by places cells → IsTable places cells
-    → f.levels ≡ levels_where f.labels heights → length cells ≡ length heights → crests ≡ map
-    (crest_of c levels) places → AreGreater heights cells crests raised → IsRaised c f levels raised
-raised_by_table c f places cells heights levels crests raised are table where_is long is s =
-    let by = by_table c f places cells heights levels crests are table where_is long is in
-    let same : length f.levels ≡ length f.labels = ap length where_is
-    ∙ levels_where-length f.labels heights (sym by.heights_size) in
-    record {
-      size = s.size ∙ by.heights_size ∙ sym same;
-      each = λ i low. s.each i (omega (arith, low, same, by.heights_size))
-          ∙ by.each i (omega (arith, low, same));
-    }
 
 -- If h is at most NODATA's number, storing the least crest first changes no stored raised height.
 greater_stored : (h : ℤ) (crest : Option ℤ) → h ≤ℤ no_data →

@@ -2,7 +2,7 @@
 -- of cells. A label's node is its place's index in row order of the grid. A walk leads from a node
 -- along joins to a source. The crest of a walk is the greatest height of its joins and its source.
 -- Public.
-use Rattle.std.specs.Prelude.{◌≡◌, ◌≢◌, ℕ, ◌*◌, ◌<◌, ℤ, pos, ◌≤ℤ◌, List, length, Option, None, Some, MatchOption, slice_get, slice_index_or, option_and_then}
+use Rattle.std.specs.Prelude.{◌≡◌, ◌≢◌, ℕ, ◌*◌, ◌<◌, ℤ, ◌≤ℤ◌, List, length, Option, None, Some, MatchOption, slice_get, slice_index_or, option_and_then}
 use Rattle.std.specs.Int.{int_max}
 use Rattle.std.specs.List.{Contains}
 use Rattle.terrain.specs.Raster.{Terrain}
@@ -127,14 +127,6 @@ raised_by c levels level label = greater_of level (crest_of c levels label)
 pub record IsListOf (entry : ℕ → Option ℤ) (count : ℕ) (list : List (Option ℤ)) : Type 0 where
   pub size : length list ≡ count
   pub each : (k : ℕ) → k < count → slice_index_or list k None ≡ entry k
-
--- Entry i of `raised` is the greater of entry i of `heights` and a least crest, or None if the
--- least crest is None. The least crest is the entry of `crests` at the index that entry i of
--- `labels` has.
-abbrev pub AreGreater : List ℤ → List ℕ → List (Option ℤ) → List (Option ℤ) → Type 0
-AreGreater heights labels crests raised =
-    IsListOf (λ i. greater_of (Some (slice_index_or heights i (pos 0)))
-    (slice_index_or crests (slice_index_or labels i 0) None)) (length heights) raised
 
 -- `raised` has the raised height of each cell of the tile; `levels` has the least crests of labels.
 pub record IsRaised (c : Cutting) (f : Flood) (levels : List (Option ℤ))

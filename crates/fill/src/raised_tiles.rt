@@ -12,7 +12,7 @@ ghost use Rattle.fill.specs.RaisedTiles.{AreCrestCells, AreTileRuns, HasRow, Has
 
 use crate::label_graph::LabelLevels;
 use crate::raised_runs::{RaisedRun, RunList};
-use cell_floods::TileFlood;
+use cell_floods::{Levels, TileFlood};
 use std::alloc::{AllocError, Global};
 use terrain::{Cell, Height, Place};
 use tile_jobs::{JobFault, Work};
@@ -21,7 +21,7 @@ use tiles::{Bounds, TileView, Tiling};
 /// The levels and label indexes of a tile's cells, and the labels' least crests.
 #[derive(Drop)]
 struct RaisedTile<'a> {
-    heights: &'a [Height],
+    heights: &'a Levels,
     labels: &'a [u32],
     /// The least crest of each of the tile's labels in the spill graph, as a cell.
     /// No data for the table's first entry, `None`, and for a label without a least crest.
@@ -102,7 +102,7 @@ impl<'a> RaisedTile<'a> {
     {
         // The number of NODATA is above all heights, so the maximum stays NODATA.
         let crest = self.crests[self.labels[index] as usize];
-        Cell::of(self.heights[index].max(crest.number()))
+        Cell::of(self.heights.at(index).max(crest.number()))
     }
 
     /// Adds the cells of a row that rise above the heights read.

@@ -1,3 +1,4 @@
+use Rattle.std.proofs.Common.{◌∙◌}
 use Rattle.cell_floods.proofs.TileRectangles.{inner_lists}
 use Rattle.cell_floods.proofs.tile.flood_by_queue.Goals as goal
 
@@ -5,7 +6,7 @@ pub returns : goal.returns
 returns c =
     let found = c.in_ok-levels.field-0 in
     let lists = inner_lists c.args.bounds found.levels found.labels _ _ _ _ c.heights.ensures
-    c.numbers.ensures c.in_ok-without_border.ensures c.in_ok-without_border-2.ensures in
+    c.numbers.ensures (c.of_heights.ensures ∙ c.in_ok-heights.ensures) c.in_ok-without_border.ensures in
     record {
       levels = found.levels;
       labels = found.labels;

@@ -12,9 +12,9 @@ returns c =
       levels = f.levels.items;
       labels = numbered_labels f.labels.items;
       flooded = rw c.in-Some.is at c.in_ok-found.ensures;
-      heights_are = c.in_ok-numbers.ensures ∙ ap (map height_or_lack) (c.deref-2.ensures.value ∙ c.in_ok-levels.ensures
-          ∙ ap (λ z. inner_rows z b.cols b.rows) c.deref.ensures.value);
+      heights_are = c.in_ok-of_nodes.ensures
+          ∙ ap (λ z. map height_or_lack (inner_rows z b.cols b.rows)) c.deref.ensures.value;
       nodes_are = ap numbered_labels (c.in_ok-without_border.ensures
-          ∙ ap (λ z. inner_rows z b.cols b.rows) c.deref-3.ensures.value)
+          ∙ ap (λ z. inner_rows z b.cols b.rows) c.deref-2.ensures.value)
           ∙ sym (inner_rows-map label_of f.labels.items b.cols b.rows);
     }

@@ -16,7 +16,7 @@ use Rattle.cell_floods.proofs.tile.tile_flood.Goals.{After-deref, After-places}
 levels : (c : goal.After-places) → let view = c.args.view.now in
     let labels = labels_by c.in_ok-labels.labels.places c.in_ok-labels.labels.indexes in
     AreTileLevels (with_sinks (terrain_of view) c.args.sinks.now) view.cutting view.tile
-    c.bounds-bounds.result (levels_where labels c.in_ok-inner.inner.heights.items) labels
+    c.bounds-bounds.result (levels_where labels c.in_ok-inner.inner.heights) labels
 levels c =
     let lawful = c.bounds-bounds.ensures.lawful in
     let found = c.in_ok-inner.ensures in

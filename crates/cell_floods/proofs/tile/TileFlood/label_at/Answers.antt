@@ -11,7 +11,7 @@ none_mapped (Some label) height = refl
 pub returns-clause-level : goal.returns-clause-level
 returns-clause-level c =
     let x = c.self.inside in
-    let heights = x.heights.items in
+    let heights = x.heights in
     let i = c.args.index in
     let shown = level_shown x.bounds heights x.labels x.ends.items _ i c.self.view_is x.whole in
     sym (none_mapped c.at.result (get_or heights i (pos 0))) ∙ ap is_none (sym (shown.1

@@ -1,7 +1,6 @@
-use Rattle.std.proofs.Common.{rules, ◌≡◌, ◌<◌, pos, inl, inr, is_some, length, get_or, None, Some, option_map, sym, ap, ◌∙◌, arith}
+use Rattle.std.proofs.Common.{rules, ◌≡◌, pos, inl, inr, is_some, get_or, None, Some, option_map, sym, ap, ◌∙◌}
 use mir.Val.{SFits}
 use Rattle.std.proofs.lemmas.Int.{to_z-of_z}
-use Rattle.std.proofs.lemmas.List.{get_or_read}
 use Rattle.terrain.proofs.Heights.{height_width}
 use Rattle.terrain.proofs.Options.{cases_option}
 use Rattle.cell_floods.specs.Labels.{labels_by}
@@ -11,24 +10,21 @@ use Rattle.cell_floods.proofs.tile.TileFlood.level_at.Goals as goal
 pub returns-then-has-clause-value : goal.returns-then-has-clause-value
 returns-then-has-clause-value c =
     let x = c.self.inside in
-    let heights = x.heights.items in
+    let heights = x.heights in
     let i = c.args.index in
     let label = get_or (labels_by x.labels.places x.labels.indexes) c.args.index None in
     let shown = level_shown x.bounds heights x.labels x.ends.items _ i c.self.view_is x.whole in
-    let low : c.args.index < length heights = omega (arith, c.requires, shown.0) in
-    let fits : SFits height_width c.index.result.now = search rules in
-    let read : c.index.result.now ≡ get_or heights c.args.index (pos 0) =
-    get_or_read heights c.args.index c.index.result.now low c.index.ensures (pos 0) in
-    rw (to_z-of_z height_width c.index.result.now fits) (elim (cases_option label) [
+    let fits : SFits height_width c.at.result = search rules in
+    rw (to_z-of_z height_width c.at.result fits) (elim (cases_option label) [
       | inl none ↦ absurd (cc (c.if-has.true, c.has.ensures, ap is_some none))
       | inr found ↦
-          ap Some read ∙ sym (shown.1 ∙ ap (option_map (λ _. get_or heights i (pos 0))) found.1)
+          ap Some c.at.ensures ∙ sym (shown.1 ∙ ap (option_map (λ _. get_or heights i (pos 0))) found.1)
     ])
 
 pub returns-else-has-clause-value : goal.returns-else-has-clause-value
 returns-else-has-clause-value c =
     let x = c.self.inside in
-    let heights = x.heights.items in
+    let heights = x.heights in
     let i = c.args.index in
     let label = get_or (labels_by x.labels.places x.labels.indexes) c.args.index None in
     let shown = level_shown x.bounds heights x.labels x.ends.items _ i c.self.view_is x.whole in

@@ -5,7 +5,7 @@ use Rattle.std.proofs.lemmas.List.{get_or_default, take_all}
 use Rattle.terrain.proofs.Heights.{height_width}
 use Rattle.floods.specs.Notes.{height_or_lack}
 use Rattle.floods.proofs.Noting.{mapped_more}
-use Rattle.cell_floods.proofs.tile.numbers.Goals as goal
+use Rattle.cell_floods.proofs.levels.numbers.Goals as goal
 
 pub loop-cell-preserved : goal.loop-cell-preserved
 loop-cell-preserved c =

@@ -1,0 +1,8 @@
+use Rattle.std.proofs.Common.{◌≡◌, ◌++◌, map, take}
+use Rattle.floods.specs.Notes.{height_or_lack}
+use Rattle.cell_floods.specs.Levels.{height_above}
+use Rattle.cell_floods.proofs.levels.push_row.Given as goal
+
+abbrev pub invariant-loop-cell : goal.invariant-loop-cell
+invariant-loop-cell l = map (height_above l.lowest) l.above.items
+    ≡ map (height_above l.lowest) l.initial.above.items ++ map height_or_lack (take l.cell-index l.row)

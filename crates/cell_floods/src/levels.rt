@@ -1,0 +1,147 @@
+//! The levels of a tile's cells, in 4 bytes each wherever they fit: [`Levels`].
+ghost use Rattle.std.specs.Prelude.{◌≡◌, ◌+◌, ◌*◌, ◌<◌, ◌≤◌, ◌++◌, pos, length, map, slice_index_or, IfOk, IfSome};
+ghost use Rattle.std.specs.Bool.{OnTrue};
+ghost use Rattle.floods.specs.Notes.{height_or_lack};
+ghost use Rattle.cell_floods.specs.Cells.{inner_rows};
+ghost use Rattle.cell_floods.specs.Levels.{height_above};
+
+use crate::cell_net::{inner_row, without_border};
+use std::alloc::{AllocError, Global};
+use std::marker::Model;
+use terrain::{Cell, Height, NO_DATA};
+
+/// The number stored above the lowest level for a cell without a level.
+const NO_LEVEL: u32 = u32::MAX;
+
+/// Levels as they are stored; a cell without a level has a number too.
+#[derive(Drop)]
+pub(crate) enum StoredLevels {
+    /// Each level's height above the lowest, or [`NO_LEVEL`].
+    Above(Vec<u32>),
+    /// The levels, or [`NO_DATA`]. Only where one lies too far above the lowest.
+    Whole(Vec<Height>),
+}
+
+/// The level of each cell of a tile, in its row order, and [`NO_DATA`] for no level.
+#[derive(Drop)]
+pub struct Levels {
+    lowest: Height,
+    stored: StoredLevels,
+}
+
+impl Model for Levels {
+    ghost use Rattle.std.specs.Prelude.{ℤ, List};
+    ghost use Rattle.cell_floods.specs.Levels.{levels_stored};
+
+    ghost Value = { List ℤ };
+
+    ghost view = { λ l. levels_stored l.lowest l.stored };
+}
+
+/// Returns the height that `above` stores.
+#[inline(always)]
+fn height_above(lowest: Height, above: u32) -> Height
+    ensures { result ≡ height_above lowest above }
+{
+    if above == NO_LEVEL {
+        NO_DATA
+    } else {
+        lowest.wrapping_add(above as Height)
+    }
+}
+
+/// Adds the levels of a row, and returns `false` where one is not stored by 32 bits.
+fn push_row(above: &mut Vec<u32>, lowest: Height, row: &[Cell]) -> Result<bool, AllocError>
+    ensures { IfOk result (λ all. OnTrue all (map (height_above lowest) above.new.items
+        ≡ map (height_above lowest) above.old.items ++ map height_or_lack row.now)) }
+{
+    for cell in row {
+        // No data is far above all heights, so its number is `NO_LEVEL`.
+        let number = cell.number().abs_diff(lowest).min(NO_LEVEL as u64) as u32;
+        if height_above(lowest, number) != cell.number() {
+            return Ok(false);
+        }
+        above.push(number)?;
+    }
+    Ok(true)
+}
+
+/// Returns the levels inside the border, each above `lowest`; `None` if one does not fit.
+fn levels_above(
+    alloc: Global,
+    levels: &[Cell],
+    lowest: Height,
+    cols: u32,
+    rows: u32,
+) -> Result<Option<Vec<u32>>, AllocError>
+    requires size { length levels.now ≡ (rows + 2) * (cols + 2) }
+    requires few_cols { cols ≤ 4096 }
+    requires few_rows { rows ≤ 4096 }
+    ensures { IfOk result (λ found. IfSome found (λ v. map (height_above lowest) v.items
+        ≡ map height_or_lack (inner_rows levels.now cols rows))) }
+{
+    let mut above = Vec::with_capacity(alloc, rows as usize * cols as usize)?;
+    for row in 0..rows {
+        if !push_row(&mut above, lowest, inner_row(levels, cols, rows, row))? {
+            return Ok(None);
+        }
+    }
+    Ok(Some(above))
+}
+
+/// Returns the number of each cell, [`NO_DATA`] for one without data.
+fn numbers(alloc: Global, cells: &[Cell]) -> Result<Vec<Height>, AllocError>
+    ensures { IfOk result (λ v. v.items ≡ map height_or_lack cells.now) }
+{
+    let mut numbers = Vec::with_capacity(alloc, cells.len())?;
+    for cell in cells {
+        numbers.push(cell.number())?;
+    }
+    Ok(numbers)
+}
+
+impl Levels {
+    /// Stores these levels, as they are.
+    pub(crate) fn of_heights(heights: Vec<Height>) -> Self
+        ensures { result ≡ heights.items }
+    {
+        Levels {
+            lowest: 0,
+            stored: StoredLevels::Whole(heights),
+        }
+    }
+
+    /// Stores the levels inside the border of a tile's net.
+    /// They take 4 bytes each if none is far from `lowest`, which should be the least.
+    pub(crate) fn of_nodes(
+        alloc: Global,
+        levels: &[Cell],
+        lowest: Height,
+        cols: u32,
+        rows: u32,
+    ) -> Result<Self, AllocError>
+        requires size { length levels.now ≡ (rows + 2) * (cols + 2) }
+        requires few_cols { cols ≤ 4096 }
+        requires few_rows { rows ≤ 4096 }
+        ensures { IfOk result (λ l. l ≡ map height_or_lack (inner_rows levels.now cols rows)) }
+    {
+        if let Some(above) = levels_above(alloc, levels, lowest, cols, rows)? {
+            let stored = StoredLevels::Above(above);
+            return Ok(Levels { lowest, stored });
+        }
+        let inner = without_border(alloc, levels, cols, rows)?;
+        Ok(Levels::of_heights(numbers(alloc, &inner)?))
+    }
+
+    /// Returns the level at an index of the tile's row order; any number if there is none.
+    #[inline(always)]
+    pub fn at(&self, index: usize) -> Height
+        requires { index < length self.now }
+        ensures { result ≡ slice_index_or self.now index (pos 0) }
+    {
+        match &self.stored {
+            StoredLevels::Above(above) => height_above(self.lowest, above[index]),
+            StoredLevels::Whole(heights) => heights[index],
+        }
+    }
+}
