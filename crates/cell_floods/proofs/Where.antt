@@ -24,13 +24,6 @@ use Rattle.std.proofs.lemmas.List.Folds.{Any-from_list_any}
 use Rattle.floods.specs.Notes.{height_or_lack}
 use Rattle.tiles.proofs.TileOrder.{entry_in-inside, place_in_bounds, index_in-place_in}
 
-pub levels_where-length : (labels : List (Option Place)) (heights : List ℤ) →
-    length labels ≡ length heights → length (levels_where labels heights) ≡ length labels
-levels_where-length [] heights e = refl
-levels_where-length (label ∷ labels) [] e = absurd (omega (arith, e))
-levels_where-length (label ∷ labels) (height ∷ heights) e =
-    ap suc (levels_where-length labels heights (omega (arith, e)))
-
 pub levels_where-at : (labels : List (Option Place)) (heights : List ℤ) (i : ℕ) →
     length labels ≡ length heights → get_or (levels_where labels heights) i None
     ≡ option_map (λ _. get_or heights i (pos 0)) (get_or labels i None)

@@ -1,8 +1,9 @@
 //! The labels of a tile's cells: a table of places, and for each cell an index into the table.
-ghost use Rattle.std.specs.Prelude.{◌≡◌, ◌+◌, ◌*◌, ◌^◌, ◌<◌, ◌≤◌, ◌∷◌, [], None, map, length, is_some, slice_index_or, IfOk, IfSome, OnOk};
+ghost use Rattle.std.specs.Prelude.{◌≡◌, ◌+◌, ◌*◌, ◌^◌, ◌<◌, ◌≤◌, ◌∷◌, [], None, map, length, is_some, slice_index_or, All, IfOk, IfSome, OnOk};
 ghost use Rattle.tiles.specs.Cutting.{IsWithinLimits};
 ghost use Rattle.cell_floods.specs.Cells.{place_of_node};
 ghost use Rattle.floods.specs.Notes.{numbered_labels};
+ghost use Rattle.cell_floods.specs.Indexes.{indexes_stored};
 ghost use Rattle.cell_floods.specs.Labels.{IsTable, AreMet, AreNodesBelow, IsListedAt, label_of_node, labels_by};
 
 use floods::label_of;
@@ -14,20 +15,31 @@ use tiles::Bounds;
 /// The index of cells without a label: the first entry of the table, `None`.
 const NO_LABEL: u32 = 0;
 
+/// The length of the longest table whose indexes take 2 bytes.
+const SHORT: usize = 1 << 16;
+
+/// The index of each cell's label in a table, in as many bytes as the table's length needs.
+#[derive(Drop)]
+pub(crate) enum Indexes {
+    Short(Vec<u16>),
+    Long(Vec<u32>),
+}
+
 /// The labels of a tile's cells: a table of places, and each cell's index into it.
 #[derive(Drop)]
 pub struct Labels {
     places: Vec<Option<Place>>,
-    indexes: Vec<u32>,
-    ghost table: { IsTable places.items indexes.items },
+    indexes: Indexes,
+    ghost table: { IsTable places.items (indexes_stored indexes) },
 }
 
 impl Model for Labels {
     ghost use Rattle.cell_floods.specs.Labels.{LabelTable};
+    ghost use Rattle.cell_floods.specs.Indexes.{indexes_stored};
 
     ghost Value = { LabelTable };
 
-    ghost view = { λ l. record { places = l.places.items; indexes = l.indexes.items } };
+    ghost view = { λ l. record { places = l.places.items; indexes = indexes_stored l.indexes } };
 }
 
 impl Labels {
@@ -40,12 +52,16 @@ impl Labels {
         &self.places
     }
 
-    /// Returns the index of each cell's label in the table, in the tile's row order.
+    /// Returns the index in the table of the label of a cell, given by its index in row order.
     #[inline(always)]
-    pub fn indexes(&self) -> &[u32]
-        ensures { result.now ≡ self.now.indexes }
+    pub fn index(&self, cell: usize) -> u32
+        requires { cell < length self.now.indexes }
+        ensures { result ≡ slice_index_or self.now.indexes cell 0 }
     {
-        &self.indexes
+        match &self.indexes {
+            Indexes::Short(indexes) => indexes[cell] as u32,
+            Indexes::Long(indexes) => indexes[cell],
+        }
     }
 
     /// Returns whether the cell at an index has a label, without reading the table.
@@ -55,7 +71,9 @@ impl Labels {
         ensures { result
             ≡ is_some (slice_index_or (labels_by self.now.places self.now.indexes) index None) }
     {
-        self.indexes[index] != NO_LABEL
+        // The prover learns from a field that the table's first entry alone is `None`.
+        let _ = &self.places;
+        self.index(index) != NO_LABEL
     }
 
     /// Returns the label of the cell at an index of the tile's row order, if any.
@@ -64,7 +82,7 @@ impl Labels {
         requires { index < length self.now.indexes }
         ensures { result ≡ slice_index_or (labels_by self.now.places self.now.indexes) index None }
     {
-        self.places[self.indexes[index] as usize]
+        self.places[self.index(index) as usize]
     }
 }
 
@@ -125,6 +143,29 @@ fn empty_table(alloc: Global, bounds: Bounds) -> Result<Vec<Option<Place>>, Allo
     Ok(places)
 }
 
+/// Returns indexes in 2 bytes each.
+fn short_indexes(alloc: Global, indexes: &[u32]) -> Result<Vec<u16>, AllocError>
+    requires { All (λ k. k < SHORT) indexes.now }
+    ensures { IfOk result (λ v. v.items ≡ indexes.now) }
+{
+    let mut short = Vec::with_capacity(alloc, indexes.len())?;
+    for index in indexes {
+        short.push(*index as u16)?;
+    }
+    Ok(short)
+}
+
+/// Stores indexes into a table of this length.
+fn stored_indexes(alloc: Global, length: usize, indexes: Vec<u32>) -> Result<Indexes, AllocError>
+    requires { All (λ k. k < length) indexes.items }
+    ensures { IfOk result (λ stored. indexes_stored stored ≡ indexes.items) }
+{
+    if length > SHORT {
+        return Ok(Indexes::Long(indexes));
+    }
+    Ok(Indexes::Short(short_indexes(alloc, &indexes)?))
+}
+
 /// Makes the table of a tile's labels, and each cell's index into it.
 /// `nodes` has for each cell a number that [`label_of`] decodes: to the cell's label, as a node of
 /// the tile's net, or to `None`.
@@ -146,5 +187,6 @@ pub(crate) fn labels_of(alloc: Global, bounds: Bounds, nodes: &[u32]) -> Result<
         let index = index_of_label(&mut places, &mut met, bounds, label_of(*node))?;
         indexes.push(index)?;
     }
+    let indexes = stored_indexes(alloc, places.len(), indexes)?;
     Ok(Labels { places, indexes })
 }

@@ -91,12 +91,12 @@ greater_stored h (Some z) low = elim (cases_Bool (int_eq z no_data)) [
 pub raised_stored : (first : ℕ) (f : Flood) (levels : List (Option ℤ)) (x : RaisedTile) (i : ℕ) →
     IsRaisedTile first f levels x → i < length f.labels → get_or x.heights.now i (pos 0) ≤ℤ no_data
     → cell_of (greater_of
-    (Some (get_or x.heights.now i (pos 0))) (get_or x.crests.items (get_or x.labels.now i 0) None))
+    (Some (get_or x.heights.now i (pos 0))) (get_or x.crests.items (get_or x.labels.now.indexes i 0) None))
     ≡ cell_of (greater_of (get_or f.levels i None) (crest_with levels (cell_label_with first f i)))
 raised_stored first f levels x i tile below low =
     let h = get_or x.heights.now i (pos 0) in
     let k = get_or f.table.indexes i 0 in
-    let entry : get_or x.labels.now i 0 ≡ k = ap (λ (z : List ℕ). get_or z i 0) tile.labels in
+    let entry : get_or x.labels.now.indexes i 0 ≡ k = ap (λ (z : List ℕ). get_or z i 0) tile.labels in
     let inside : i < length f.table.indexes = omega (arith, below, table_size) in
     let listed : get_or f.labels i None ≡ get_or f.table.places k None =
     ap (λ (z : List (Option Place)). get_or z i None) tile.lawful.labels
@@ -124,7 +124,7 @@ raised_stored first f levels x i tile below low =
     crest_by (Some p) level h k listed is = rw (← listed, is) refl
 
 pub stored_inside : (first : ℕ) (f : Flood) (levels : List (Option ℤ)) (x : RaisedTile) →
-    IsRaisedTile first f levels x → All (λ k. k < length x.crests.items) x.labels.now
+    IsRaisedTile first f levels x → All (λ k. k < length x.crests.items) x.labels.now.indexes
 stored_inside first f levels x tile i d below =
     let at : i < length f.table.indexes = omega (arith, below, ap length tile.labels) in
     omega (

@@ -41,13 +41,13 @@ pub record IsRaisedTile (first : ℕ) (f : Flood) (levels : List (Option ℤ))
   pub lawful : IsFlood f
   pub heights : f.levels ≡ levels_where f.labels x.heights.now
   pub size : length x.heights.now ≡ length f.labels
-  pub labels : x.labels.now ≡ f.table.indexes
+  pub labels : x.labels.now.indexes ≡ f.table.indexes
   pub crests : AreCrestCells levels first f.table.places x.crests.items
 
 -- The cell that the lists of a tile give the cell at index k in the tile's row order.
 abbrev pub cell_at : RaisedTile → ℕ → Option ℤ
 cell_at x k = cell_of (greater_of (Some (slice_index_or x.heights.now k (pos 0)))
-    (slice_index_or x.crests.items (slice_index_or x.labels.now k 0) None))
+    (slice_index_or x.crests.items (slice_index_or x.labels.now.indexes k 0) None))
 
 -- The number at index k of the tile's levels is at most that of NODATA, as each stored number is.
 abbrev pub IsStored : RaisedTile → ℕ → Type 0

@@ -49,7 +49,7 @@ pub(crate) fn cell_label_at(flood: &TileFlood, index: usize) -> Option<CellLabel
     let level = flood.level_at(index)?;
     Some(CellLabel {
         level,
-        node: flood.labels().indexes()[index],
+        node: flood.labels().index(index),
     })
 }
 

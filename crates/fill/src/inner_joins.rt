@@ -13,7 +13,7 @@ use crate::join_table::JoinTable;
 use crate::left_out::{LeftOut, is_bypassed, join_of};
 use crate::rim_cells::{JoinList, LabelledCells, push_join, push_outer_cells};
 use crate::spill_graph::Join;
-use cell_floods::TileFlood;
+use cell_floods::{Labels, TileFlood};
 use std::alloc::{AllocError, Global};
 use terrain::Place;
 use tiles::Bounds;
@@ -45,8 +45,8 @@ fn has_same_label(flood: &TileFlood, first: usize, second: usize) -> bool
     ensures { OnTrue result (slice_index_or flood.now.table.indexes first 0
         ≡ slice_index_or flood.now.table.indexes second 0) }
 {
-    let indexes = flood.labels().indexes();
-    indexes[first] == indexes[second]
+    let labels = flood.labels();
+    labels.index(first) == labels.index(second)
 }
 
 /// Adds the join of the cells at indexes `index` and `near`, if [`join_of`] returns one.
@@ -143,17 +143,18 @@ fn push_after(
 /// `labels` has the index of each cell's label, 0 for no label, in rows of `width` cells. All four
 /// are compared without branches, since a processor seldom predicts which differs first.
 #[inline(always)]
-fn are_equal_after(labels: &[u32], index: usize, width: usize) -> bool
+fn are_equal_after(labels: &Labels, index: usize, width: usize) -> bool
     requires some { 0 < index }
-    requires after { index + width + 1 < length labels.now }
-    ensures { OnTrue result (AreEqualAfter labels.now index width) }
+    requires after { index + width + 1 < length labels.now.indexes }
+    requires few { length labels.now.indexes ≤ 16777216 }
+    ensures { OnTrue result (AreEqualAfter labels.now.indexes index width) }
 {
-    let label = labels[index];
+    let label = labels.index(index);
     let below = index + width;
-    (labels[index + 1] == label)
-        & (labels[below - 1] == label)
-        & (labels[below] == label)
-        & (labels[below + 1] == label)
+    (labels.index(index + 1) == label)
+        & (labels.index(below - 1) == label)
+        & (labels.index(below) == label)
+        & (labels.index(below + 1) == label)
 }
 
 /// Adds the joins of a cell with its neighbours after it in row order.
@@ -174,7 +175,7 @@ fn push_inner_cell(
         table.old table.new)) }
 {
     let width = flood.bounds().cols as usize;
-    if are_equal_after(flood.labels().indexes(), index, width) {
+    if are_equal_after(flood.labels(), index, width) {
         return Ok(());
     }
     let Some(from) = cell_label_at(flood, index) else {

@@ -12,7 +12,7 @@ ghost use Rattle.fill.specs.RaisedTiles.{AreCrestCells, AreTileRuns, HasRow, Has
 
 use crate::label_graph::LabelLevels;
 use crate::raised_runs::{RaisedRun, RunList};
-use cell_floods::{Levels, TileFlood};
+use cell_floods::{Labels, Levels, TileFlood};
 use std::alloc::{AllocError, Global};
 use terrain::{Cell, Height, Place};
 use tile_jobs::{JobFault, Work};
@@ -22,7 +22,7 @@ use tiles::{Bounds, TileView, Tiling};
 #[derive(Drop)]
 struct RaisedTile<'a> {
     heights: &'a Levels,
-    labels: &'a [u32],
+    labels: &'a Labels,
     /// The least crest of each of the tile's labels in the spill graph, as a cell.
     /// No data for the table's first entry, `None`, and for a label without a least crest.
     crests: Vec<Cell>,
@@ -86,7 +86,7 @@ impl<'a> RaisedTile<'a> {
         let labels = flood.labels();
         Ok(RaisedTile {
             heights: flood.heights(),
-            labels: labels.indexes(),
+            labels,
             crests: crest_cells(alloc, levels, first, labels.places())?,
         })
     }
@@ -95,13 +95,13 @@ impl<'a> RaisedTile<'a> {
     #[inline(always)]
     fn at(&self, index: usize) -> Cell
         requires height { index < length self.now.heights.now }
-        requires label { index < length self.now.labels.now }
-        requires inside { All (λ k. k < length self.now.crests.items) self.now.labels.now }
+        requires label { index < length self.now.labels.now.indexes }
+        requires inside { All (λ k. k < length self.now.crests.items) self.now.labels.now.indexes }
         ensures low { IsStored self.now index }
         ensures value { result ≡ cell_at self.now index }
     {
         // The number of NODATA is above all heights, so the maximum stays NODATA.
-        let crest = self.crests[self.labels[index] as usize];
+        let crest = self.crests[self.labels.index(index) as usize];
         Cell::of(self.heights.at(index).max(crest.number()))
     }
 
@@ -116,9 +116,10 @@ impl<'a> RaisedTile<'a> {
         start: usize,
         first: u32,
     ) -> Result<(), AllocError>
+        requires start { start ≤ 16777216 }
         requires height { start + length read.now ≤ length self.now.heights.now }
-        requires label { length self.now.heights.now ≤ length self.now.labels.now }
-        requires inside { All (λ k. k < length self.now.crests.items) self.now.labels.now }
+        requires label { length self.now.heights.now ≤ length self.now.labels.now.indexes }
+        requires inside { All (λ k. k < length self.now.crests.items) self.now.labels.now.indexes }
         requires small { first + length read.now ≤ 2 ^ 24 }
         ensures { OnOk result ((raised : ℕ → Option ℤ) →
             HasRow self.now raised start first (length read.now) → AddsRow raised read.now first
@@ -141,8 +142,8 @@ impl<'a> RaisedTile<'a> {
         view: &TileView<'_, Cell>,
         cols: u32,
     ) -> Result<Vec<RaisedRun>, AllocError>
-        requires size { length self.now.labels.now ≡ length self.now.heights.now }
-        requires inside { All (λ k. k < length self.now.crests.items) self.now.labels.now }
+        requires size { length self.now.labels.now.indexes ≡ length self.now.heights.now }
+        requires inside { All (λ k. k < length self.now.crests.items) self.now.labels.now.indexes }
         requires cells { length self.now.heights.now ≡ cell_count view.now.cutting view.now.tile }
         requires cols { cols ≡ view.now.cutting.cols }
         ensures { IfOk result (λ v. (raised : ℕ → Option ℤ) →

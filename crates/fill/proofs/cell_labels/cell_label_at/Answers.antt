@@ -12,9 +12,8 @@ returns c =
     let f = c.args.flood.now in
     let level = c.in_ok-level.level in
     let fits : SFits height_width level = search rules in
-    let index : get_or f.table.indexes c.args.index 0 ≡ get_or c.indexes.result.now c.args.index 0 =
-    sym (ap (λ z. get_or z c.args.index 0) (c.indexes.ensures
-    ∙ ap (λ (z : LabelTable). z.indexes) c.labels.ensures.value)) in
+    let index : get_or f.table.indexes c.args.index 0 ≡ c.index.result =
+    sym (c.index.ensures ∙ ap (λ (z : LabelTable). get_or z.indexes c.args.index 0) c.labels.ensures.value) in
     rw (to_z-of_z height_width level fits)
     (elim (cases_option (get_or f.labels c.args.index None)) [
       | inl none ↦

@@ -1,4 +1,4 @@
-use Rattle.std.proofs.Common.{rules, ◌≡◌, pos, inl, inr, is_some, get_or, None, Some, option_map, sym, ap, ◌∙◌}
+use Rattle.std.proofs.Common.{rules, pos, inl, inr, is_some, get_or, None, Some, option_map, sym, ap, ◌∙◌}
 use mir.Val.{SFits}
 use Rattle.std.proofs.lemmas.Int.{to_z-of_z}
 use Rattle.terrain.proofs.Heights.{height_width}

@@ -5,6 +5,8 @@ use Rattle.fill.specs.RaisedRuns.{runs_of}
 use Rattle.fill.specs.RaisedTiles.{AreTileRuns, HasRow, HasTile}
 use Rattle.fill.specs.declared.raised_runs.RaisedRun.{RaisedRun}
 use Rattle.fill.proofs.RaisedRuns.{next_row, row_of_tile}
+use Rattle.std.proofs.lemmas.Nat.{mul-le}
+use Rattle.cell_floods.proofs.TileRectangles.{bounds_limits}
 use Rattle.fill.proofs.raised_tiles.RaisedTile.runs.Goals as goal
 
 pub loop-row-init : goal.loop-row-init
@@ -12,6 +14,15 @@ loop-row-init c raised all = record {
   sound = c.new-runs.ensures raised;
   each = λ p inside under. absurd (omega (arith, inside, under));
 }
+
+pub push_row-requires-clause-start : goal.push_row-requires-clause-start
+push_row-requires-clause-start c =
+    let b = c.bounds-top.result in
+    let limits = bounds_limits c.args.view.now.cutting b c.bounds-top.ensures.lawful.cutting c.bounds-top.ensures.inside in
+    omega (
+      arith,
+      mul-le c.loop-row.row b.cols 4096 4096 (omega (arith, limits, c.loop-row-test.true)) (omega (arith, limits)),
+    )
 
 pub loop-row-preserved : goal.loop-row-preserved
 loop-row-preserved c raised all =
