@@ -9,6 +9,7 @@ ghost use Rattle.tiles.specs.Cutting.{AreBounds, IsCutting, IsInBounds, IsWithin
 ghost use Rattle.sightlines.specs.Sight.{highest_eye, place_of};
 ghost use Rattle.sight.specs.Flags.{AreFlagsBelow, AreFlags, FlagsSeen, IsFlagOf};
 
+use crate::ranks::SweepFault;
 use crate::tile::ViewshedInput;
 use sightlines::{WalkCache, may_see, sees_past_blocks};
 use std::alloc::{AllocError, Global};
@@ -71,7 +72,14 @@ impl<'a> ViewshedInput<'a> {
             return Ok(());
         }
         self.set_flags(Check::FirstCrossings, observer, bounds, seen);
-        self.hide_blocked(alloc, observer, bounds, seen)
+        match self.hide_blocked(alloc, observer, bounds, seen) {
+            Ok(()) => Ok(()),
+            Err(SweepFault::Unsorted) => {
+                self.set_flags(Check::Whole, observer, bounds, seen);
+                Ok(())
+            }
+            Err(SweepFault::Memory(error)) => Err(error),
+        }
     }
 
     /// Whether walks to a tile's cells cost more than a sweep, judged by a sample.

@@ -11,9 +11,9 @@ use crate::extent::Extent;
 use crate::family::Family;
 use crate::line_blocks::LineBlocks;
 use crate::looking::SweepLookup;
-use crate::ranks::rank;
+use crate::ranks::{SweepFault, rank};
 use horizons::Target;
-use std::alloc::{AllocError, Global};
+use std::alloc::Global;
 use terrain::Cell;
 
 impl Family {
@@ -56,7 +56,7 @@ pub(crate) fn hide(
     extent: Extent,
     height: u32,
     flags: &mut [bool],
-) -> Result<(), AllocError>
+) -> Result<(), SweepFault>
     requires heights { AreHeights cells.now }
     requires tops { AreLineTops cells.now family tops.now blocks }
     requires family { IsFamily family }

@@ -22,7 +22,8 @@
 //! - `line_ground`: raises a horizon to the ground of one line
 //! - `line_blocks`: finds lines without ground above a piece, by greatest heights of blocks
 //! - `gathering`: collects the rays of flagged cells, line by line
-//! - `ranks`: sorts rays by slope
+//! - `ranks`: ranks rays by slope, and certifies their ranks
+//! - `ray_order`: lists rays by slope, without promise
 //! - `rising`: how far a target rises above the eye
 //! - `family`: the lines on one side of the observer, and the ground that rays meet there
 //! - `extent`: parts of the grid whose cells have flags
@@ -46,6 +47,7 @@ mod line_ground;
 mod looking;
 mod raising;
 mod ranks;
+mod ray_order;
 mod reach;
 mod rise_tile;
 mod rising;

@@ -19,7 +19,7 @@ use terrain::Cell;
 
 /// Whether the ray to a target crosses a line before the cell at `offset`.
 #[inline(always)]
-fn is_before(target: Target, line: u32, offset: i32) -> bool
+pub(crate) fn is_before(target: Target, line: u32, offset: i32) -> bool
     requires target { IsTarget target }
     requires line { line ≤ 4096 }
     requires offset { unsigned_abs offset ≤ 2 ^ 26 }

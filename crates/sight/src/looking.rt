@@ -148,12 +148,10 @@ impl SweepLookup {
         let gained = ramp.gain.wrapping_mul(i64::from(target.offset));
         let value = gained.wrapping_add(ramp.intercept.wrapping_mul(i64::from(target.line)));
         let lines = i64::from(ramp.lines.max(1));
-        let seen = value.wrapping_add(lines - 1).div_euclid(lines);
-        let missing = seen.wrapping_sub(rise);
-        if missing < 0 {
-            return 0;
-        }
-        (missing as u64).min(u64::from(HIGHEST_TARGET) + 1) as u32
+        // mostly below 2^32, where a division takes half the time
+        let hidden = value.wrapping_sub(rise.wrapping_mul(lines)).max(0) as u64;
+        let missing = hidden.wrapping_add(lines as u64 - 1) / lines as u64;
+        missing.min(u64::from(HIGHEST_TARGET) + 1) as u32
     }
 
     /// Raises a target from `height` to the least height at which the horizon does not hide it.

@@ -18,10 +18,10 @@ use crate::extent::Extent;
 use crate::family::Family;
 use crate::line_blocks::LineBlocks;
 use crate::looking::SweepLookup;
-use crate::ranks::rank;
+use crate::ranks::{SweepFault, rank};
 use crate::sides::{TileAxis, family_of};
 use crate::tile::ViewshedInput;
-use std::alloc::{AllocError, Global};
+use std::alloc::Global;
 use terrain::{Cell, Observer};
 use tiles::Bounds;
 
@@ -35,7 +35,7 @@ fn raise_over(
     extent: Extent,
     flags: &[bool],
     targets: &mut [u32],
-) -> Result<(), AllocError>
+) -> Result<(), SweepFault>
     requires heights { AreHeights cells.now }
     requires tops { AreLineTops cells.now family tops.now blocks }
     requires family { IsFamily family }
@@ -69,7 +69,7 @@ fn raise_on_both_sides(
     eye: i64,
     flags: &[bool],
     targets: &mut [u32],
-) -> Result<(), AllocError>
+) -> Result<(), SweepFault>
     requires heights { AreHeights cells.now }
     requires tops { AreLineTops cells.now (family_of lines side eye) tops.now blocks }
     requires lines { IsTileAxis lines }
@@ -111,7 +111,7 @@ impl<'a> ViewshedInput<'a> {
         bounds: Bounds,
         flags: &[bool],
         targets: &mut [u32],
-    ) -> Result<(), AllocError>
+    ) -> Result<(), SweepFault>
         requires lawful { IsCutting self.now.tiling.now }
         requires inside { AreBounds self.now.tiling.now bounds }
         requires observer { IsInside self.now.grid.now.terrain (place_of observer.now) }

@@ -1,23 +1,41 @@
-//! Sorts rays by slope, in whole numbers.
+//! Ranks rays by slope.
 //!
 //! A ray leads from the observer to a target, seen from above. Its slope is the target's `offset`
 //! over the target's `line`; its rank is the target's index among the sorted targets.
-ghost use Rattle.std.specs.Prelude.{◌≡◌, ℕ, ◌^◌, ◌≤◌, length, Some, IfOk, slice_get};
+//!
+//! The order of the rays carries no promise, so [`rank`] certifies the ranks that it makes by it.
+ghost use Rattle.std.specs.Prelude.{◌≡◌, ℕ, ◌^◌, ◌≤◌, length, Some, OnOk, IfOk, slice_get};
+ghost use Rattle.std.specs.Bool.{OnTrue};
 ghost use Rattle.horizons.specs.declared.target.Target.{Target};
-ghost use Rattle.horizons.specs.Horizons.{IsTarget};
-ghost use Rattle.sight.specs.Ranks.{slope_of, AreNumbered, IsRanked};
+ghost use Rattle.horizons.specs.Horizons.{AreTargets, IsTarget};
+ghost use Rattle.sight.specs.Ranks.{IsRanked};
 
+use crate::line_ground::is_before;
+use crate::ray_order::{index_of, rays_by_slope};
 use horizons::Target;
 use std::alloc::{AllocError, Global};
 
-/// The greatest absolute value of a target's offset, in cells.
-const GREATEST_OFFSET: i64 = 4_096;
+/// Marks a ray without a rank.
+const NO_RANK: u32 = u32::MAX;
 
-/// The slope of a ray, as a whole number, and the ray's index in the list of rays.
+/// Why a sweep was given up.
 #[derive(Clone, Copy)]
-pub struct RaySlope {
-    pub slope: u64,
-    pub number: u32,
+pub enum SweepFault {
+    /// An allocation failed.
+    Memory(AllocError),
+    /// The order of the rays was found wrong.
+    Unsorted,
+}
+
+impl From<AllocError> for SweepFault {
+    ghost use Rattle.std.specs.Prelude.{◌≡◌};
+    ghost use Rattle.sight.specs.declared.ranks.SweepFault.TheVariants.{Memory};
+
+    ghost from_gives = { λ error fault. fault ≡ Memory error };
+
+    fn from(error: AllocError) -> Self {
+        SweepFault::Memory(error)
+    }
 }
 
 /// Targets by rising slope, and the rank of each ray's target among them.
@@ -27,47 +45,46 @@ pub struct RankedRays {
     pub ranks: Vec<u32>,
 }
 
-/// Returns a ray's slope plus 4,096 in units of 2^-24, rounded down.
-/// Different slopes are more than one unit apart, so their order is kept.
-#[inline(always)]
-fn slope_of(target: Target) -> u64
-    requires { IsTarget target }
-    ensures { result ≡ slope_of target }
+/// Whether targets are sorted by slope.
+fn are_sorted(targets: &[Target]) -> bool
+    requires { (i : ℕ) (t : Target) → slice_get targets.now i ≡ Some t → IsTarget t }
+    ensures { OnTrue result (AreTargets targets.now) }
 {
-    let shifted = target.offset as i64 + GREATEST_OFFSET * target.line as i64;
-    (shifted as u64) * (1 << 24) / target.line as u64
-}
-
-/// Returns each ray's index and slope, by rising slope.
-fn number_by_slope(alloc: Global, rays: &[Target]) -> Result<Vec<RaySlope>, AllocError>
-    requires each { (i : ℕ) (t : Target) → slice_get rays.now i ≡ Some t → IsTarget t }
-    requires few { length rays.now ≤ 2 ^ 24 }
-    ensures { IfOk result (λ v. AreNumbered rays.now v.items) }
-{
-    let mut order = Vec::with_capacity(alloc, rays.len())?;
-    for number in 0..rays.len() {
-        order.push(RaySlope {
-            slope: slope_of(rays[number]),
-            number: number as u32,
-        })?;
+    for index in 1..targets.len() {
+        let last = targets[index - 1];
+        if is_before(targets[index], last.line, last.offset) {
+            return false;
+        }
     }
-    order.sort_unstable_by_key(|ray| ray.slope);
-    Ok(order)
+    true
 }
 
 /// Returns the targets of rays by rising slope, and the rank of each ray's target.
-pub(crate) fn rank(alloc: Global, rays: &[Target]) -> Result<RankedRays, AllocError>
+///
+/// # Errors
+///
+/// [`SweepFault::Unsorted`] if the ranks fail their certificate.
+pub(crate) fn rank(alloc: Global, rays: &[Target]) -> Result<RankedRays, SweepFault>
     requires each { (i : ℕ) (t : Target) → slice_get rays.now i ≡ Some t → IsTarget t }
     requires few { length rays.now ≤ 2 ^ 24 }
     ensures { IfOk result (λ r. IsRanked rays.now r.targets.items r.ranks.items) }
 {
-    let order = number_by_slope(alloc, rays)?;
+    let order = rays_by_slope(alloc, rays)?;
     let mut targets = Vec::with_capacity(alloc, rays.len())?;
-    let mut ranks = vec![in alloc; 0; rays.len()]?;
-    for rank in 0..order.len() {
-        let number = order[rank].number as usize;
-        targets.push(rays[number])?;
+    let mut ranks = vec![in alloc; NO_RANK; rays.len()]?;
+    for rank in 0..rays.len() {
+        let Some(entry) = order.get(rank) else {
+            return Err(SweepFault::Unsorted);
+        };
+        let number = index_of(*entry);
+        if number >= rays.len() {
+            return Err(SweepFault::Unsorted);
+        }
+        targets.push(rays[number]).map_err(AllocError::from)?;
         ranks[number] = rank as u32;
+    }
+    if ranks.contains(&NO_RANK) || !are_sorted(&targets) {
+        return Err(SweepFault::Unsorted);
     }
     Ok(RankedRays { targets, ranks })
 }

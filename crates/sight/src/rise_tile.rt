@@ -13,6 +13,7 @@ ghost use Rattle.sight.specs.Raising.{IsCandidate};
 
 use crate::flagging::{SAMPLES, sample_at};
 use crate::heights::HIGHEST_TARGET;
+use crate::ranks::SweepFault;
 use crate::tile::ViewshedInput;
 use sightlines::{WalkCache, is_candidate, least_height};
 use std::alloc::{AllocError, Global};
@@ -177,9 +178,17 @@ impl<'a> ViewshedInput<'a> {
         }
         let flags = self.candidates(alloc, observer, bounds)?;
         let mut targets = vec![in alloc; 0; flags.len()]?;
-        self.raise_blocked(alloc, observer, bounds, &flags, &mut targets)?;
-        lower_to(&flags, &targets, values);
-        Ok(())
+        match self.raise_blocked(alloc, observer, bounds, &flags, &mut targets) {
+            Ok(()) => {
+                lower_to(&flags, &targets, values);
+                Ok(())
+            }
+            Err(SweepFault::Unsorted) => {
+                self.lower_by_walks(observer, bounds, values);
+                Ok(())
+            }
+            Err(SweepFault::Memory(error)) => Err(error),
+        }
     }
 
     /// Lowers each value of a tile to the least height at which an observer sees its cell.

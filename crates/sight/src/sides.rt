@@ -19,9 +19,10 @@ use crate::family::{Family, Lines, Side};
 use crate::heights::height_at;
 use crate::hiding::hide;
 use crate::line_blocks::LineBlocks;
+use crate::ranks::SweepFault;
 use crate::tile::ViewshedInput;
 use sightlines::{NEAR_BLOCK, blocks_in, elevation};
-use std::alloc::{AllocError, Global};
+use std::alloc::Global;
 use terrain::{Cell, Observer, Place};
 use tiles::Bounds;
 
@@ -98,7 +99,7 @@ fn hide_on_both_sides(
     eye: i64,
     height: u32,
     flags: &mut [bool],
-) -> Result<(), AllocError>
+) -> Result<(), SweepFault>
     requires heights { AreHeights cells.now }
     requires tops { AreLineTops cells.now (family_of lines side eye) tops.now blocks }
     requires lines { IsTileAxis lines }
@@ -200,7 +201,7 @@ impl<'a> ViewshedInput<'a> {
         observer: &Observer,
         bounds: Bounds,
         flags: &mut [bool],
-    ) -> Result<(), AllocError>
+    ) -> Result<(), SweepFault>
         requires lawful { IsCutting self.now.tiling.now }
         requires inside { AreBounds self.now.tiling.now bounds }
         requires observer { IsInside self.now.grid.now.terrain (place_of observer.now) }

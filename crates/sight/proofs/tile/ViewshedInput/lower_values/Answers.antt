@@ -10,8 +10,8 @@ use Rattle.sight.proofs.Indexed.{place_inside}
 use Rattle.sight.proofs.Swept.{swept_lowered}
 use Rattle.sight.proofs.tile.ViewshedInput.lower_values.Goals as goal
 
-pub returns : goal.returns
-returns c k less =
+pub returns-in-Ok : goal.returns-in-Ok
+returns-in-Ok c k less =
     let self = c.args.self.now in
     let t = self.grid.now.terrain in
     let o = c.args.observer.now in
@@ -26,14 +26,14 @@ returns c k less =
     let raised : get_or flags k false ≡ true → IsRaised (λ h. not (is_open t o (place_in b k) h)) 0
     (get_or targets k 0) = λ flagged.
     subst (λ (j : ℕ). IsRaised (λ h. not (is_open t o (place_in b k) h)) 0 (get_or targets j 0)) at
-    (c.in_ok-raise_blocked.ensures (place_in b k) (place_inside b k below)
+    (c.in-Ok.ensures (place_in b k) (place_inside b k below)
     (ap (λ (xs : List Bool). flag_at b xs (place_in b k)) c.deref.ensures.value
     ∙ ap (λ j. get_or flags j false) at ∙ flagged)) in
     let new = c.lower_to.ensures k less
-    ∙ ap (λ (xs : List Bool). lowered_to (get_or xs k false) (get_or c.deref-3.result.now k 0)
-    (get_or c.args.values.now k None)) c.deref-2.ensures.value
+    ∙ ap (λ (xs : List Bool). lowered_to (get_or xs k false) (get_or c.deref-in-Ok-2.result.now k 0)
+    (get_or c.args.values.now k None)) c.deref-in-Ok.ensures.value
     ∙ ap (λ (xs : List ℕ). lowered_to (get_or flags k false) (get_or xs k 0)
-    (get_or c.args.values.now k None)) (c.deref-3.ensures.value ∙ whole) in
+    (get_or c.args.values.now k None)) (c.deref-in-Ok-2.ensures.value ∙ whole) in
     swept_lowered t o self.radius (place_in b k) (get_or flags k false) (get_or targets k 0)
     (get_or c.args.values.now k None) (get_or c.lower_to.new.values k None) (c.requires.low k)
     (c.in_ok-flags.ensures.flags k below) raised new
