@@ -11,7 +11,7 @@ ghost use Rattle.horizons.specs.Horizons.{AreTargets, IsTarget};
 ghost use Rattle.sight.specs.Ranks.{IsRanked};
 
 use crate::line_ground::is_before;
-use crate::ray_order::{index_of, rays_by_slope};
+use crate::ray_order::rays_by_slope;
 use horizons::Target;
 use std::alloc::{AllocError, Global};
 
@@ -76,7 +76,7 @@ pub(crate) fn rank(alloc: Global, rays: &[Target]) -> Result<RankedRays, SweepFa
         let Some(entry) = order.get(rank) else {
             return Err(SweepFault::Unsorted);
         };
-        let number = index_of(*entry);
+        let number = entry.index();
         if number >= rays.len() {
             return Err(SweepFault::Unsorted);
         }

@@ -8,7 +8,7 @@ use Rattle.sight.proofs.ranks.rank.Goals as goal
 pub loop-rank-preserved : goal.loop-rank-preserved
 loop-rank-preserved c =
     let rays = c.args.rays.now in
-    let number = c.index_of-number.result in
+    let number = c.index-number.result in
     let t = get_or rays number (record { offset = pos 0; line = 0 }) in
     let at = slice_get-get_or rays number (record { offset = pos 0; line = 0 }) (omega arith) in
     let ok : is_ok c.push.result ≡ true = sym c.in_ok-map_err.ensures.variant in
