@@ -25,7 +25,7 @@ from typing import Any, Callable, Dict, Iterator, List, NamedTuple, Optional, Se
 import numpy as np
 
 from .arguments import MOST_WORKERS, drop_of_arguments, needed, radius_of, shown, units_of, whole_number
-from .curvature import EARTH, REFRACTION, lowered
+from .curvature import EARTH, REFRACTION, coarser, curved, finer, lowered
 from .differences import COMPARED, Pair, differences_of
 from .edges import uncertain_cells, uncertain_map
 from .errors import InputError, UsageError
@@ -146,7 +146,7 @@ def view(heights: Any, observers: Sequence[Observer], nodata: Optional[float] = 
         radius: how far is seen, in cells, 1 to 8,192; None: over the whole grid.
         cell: the side of a cell in the unit of the heights, which curvature takes.
         curvature: whether the earth's curvature counts: ground at a distance d of an observer lies lower by
-            (1 - refraction) d^2 / (2 earth), rounded to whole numbers of 10^-scale. Each observer is a run then.
+            (1 - refraction) d^2 / (2 earth). Each observer is a run then.
         refraction: the share of the curvature that refraction takes away, 0 to 1.
         earth: the earth's radius, in the unit of the heights.
 
@@ -256,11 +256,11 @@ def visibility(heights: Any, observers: Sequence[Observer], nodata: Optional[flo
     with spoken_in(PYTHON):
         given = given_of(heights, nodata, scale)
         request, drop = _view_request(given, observers, target, radius, workers, cell, curvature, refraction, earth)
-        cells, sights = [], []
+        cells, sights, decimals = [], [], given.heights.decimals
         for at, (ground, found) in enumerate(_seen_by_each(request, given.heights, drop, program or Program.find())):
             cells.append(int(np.count_nonzero(found > 0)))
-            sights += [Sight(at, it.other, it.cells, it.is_seen, Decimal(it.least).scaleb(-ground.decimals))
-                       for it in sights_of(at, request.places, (0, 0), ground, request.radius)]
+            sights += [Sight(at, it.other, it.cells, it.is_seen, Decimal(it.least).scaleb(-decimals))
+                       for it in sights_of(at, request.places, decimals, (0, 0), ground, request.radius)]
         return Visibility(tuple(cells), tuple(sights))
 
 
@@ -361,9 +361,10 @@ def profile(heights: Any, start: Cell, end: Cell, eye: Number, nodata: Optional[
         places = [given.place(cell, name) for cell, name in ((start, "start"), (end, "end"))]
         units = [units_of(height, given.heights.decimals, name) for height, name in ((eye, "eye"), (target, "target"))]
         ends = [(place.row, place.col) for place in places]
-        drop = drop_of_arguments(cell, curvature, refraction, earth, given.heights.decimals)
-        ground = given.heights if drop is None else lowered(given.heights, ends[0], drop)
-        found = profile_of(ground, *ends, *units)
+        decimals = given.heights.decimals
+        drop = drop_of_arguments(cell, curvature, refraction, earth, decimals)
+        ground = given.heights if drop is None else lowered(given.heights, ends[0], drop, max(units))
+        found = profile_of(ground, *ends, *units, decimals)
         return found if found.worst is None else replace(
             found, worst=replace(found.worst, cell=given.cell(*found.worst.cell)))
 
@@ -568,8 +569,10 @@ def _seen_by_each(request: Request, heights: Heights, drop: Optional[Fraction],
         # The program refuses them, and says which one.
         make(request, heights, program)
     for place in request.places:
-        ground = heights if drop is None else lowered(heights, (place.row, place.col), drop)
-        yield ground, make(replace(request, places=[place]), ground, program)
+        asked, ground = replace(request, places=[place]), heights
+        if drop is not None:
+            asked, ground = curved(asked, heights, drop)
+        yield ground, coarser(request.map, make(asked, ground, program), finer(ground, heights.decimals))
 
 
 def _with_nodata(given: Given, values: np.ndarray) -> np.ndarray:

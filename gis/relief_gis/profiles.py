@@ -73,15 +73,17 @@ def run_profile(job: ProfileJob, say: Say, tell: Say) -> Profile:
         say(line)
     heights = heights_in_units(terrain, job.decimals)
     tell_rounding(heights.rounding, heights.decimals, say)
-    if job.curvature:
-        heights = lowered(heights, start, drop_of_a_cell(terrain.frame, terrain.unit, heights.decimals, job.refraction))
-    eye, above = (whole_units(height, heights.decimals, f"the {name}")
+    decimals = heights.decimals
+    eye, above = (whole_units(height, decimals, f"the {name}")
                   for height, name in ((job.eye, "eye"), (job.above, "target")))
-    profile = profile_of(heights, start, end, eye, above)
+    if job.curvature:
+        drop = drop_of_a_cell(terrain.frame, terrain.unit, decimals, job.refraction)
+        heights = lowered(heights, start, drop, max(eye, above))
+    profile = profile_of(heights, start, end, eye, above, decimals)
     line = Line(terrain.frame, start, end)
-    for text in _answer(job, profile, line, heights.decimals):
+    for text in _answer(job, profile, line, decimals):
         tell(text)
-    _write(job, profile, line, heights.decimals, say)
+    _write(job, profile, line, decimals, say)
     return profile
 
 

@@ -9,12 +9,14 @@ from typing import Iterator, List, Optional, Tuple
 import numpy as np
 
 from .heights import Heights
-from .units import MOST_EYE_UNITS
+from .units import MOST_DECIMALS, MOST_EYE_UNITS
 
 Cell = Tuple[int, int]
 
 # Sums of three whole numbers below it have 64 bits.
 MOST_EXACT = 1 << 61
+# Most units of eyes and targets, where those of heights are finer.
+MOST_ABOVE = MOST_EYE_UNITS * 10**MOST_DECIMALS
 
 
 @dataclass(frozen=True)
@@ -115,7 +117,7 @@ def _crossings(heights: Heights, start: Cell, end: Cell, axis: int) -> Optional[
     first, second = (_cells(start, axis, sign * step, whole + further) for further in (0, part > 0))
     one, other = (heights.units[cells].astype(np.int64) for cells in (first, second))
     ends = (abs(int(heights.units[cell])) for cell in (start, end))
-    if (max(*ends, int(np.abs([one, other]).max())) + MOST_EYE_UNITS) * length >= MOST_EXACT:
+    if (max(*ends, int(np.abs([one, other]).max())) + MOST_ABOVE) * length >= MOST_EXACT:
         one, other, step, part = (it.astype(object) for it in (one, other, step, part))
     nearer = np.where(2 * part > length, second, first)
     return Crossings(length, step, one * (length - part) + other * part, heights.valid[first] & heights.valid[second],
@@ -165,9 +167,15 @@ class Profile:
     least_target: Decimal
 
 
-def profile_of(heights: Heights, start: Cell, end: Cell, eye: int, above: int) -> Profile:
-    """The line of sight between two cells with data, with eye and target in units above the ground."""
+def profile_of(heights: Heights, start: Cell, end: Cell, eye: int, above: int, decimals: int) -> Profile:
+    """The line of sight between two cells with data.
+
+    Args:
+        eye, above: of the target, above the ground in units of 10^-decimals; those of heights may be finer.
+    """
     sightline = Sightline(heights, start, end)
+    factor = 10 ** (heights.decimals - decimals)
+    eye, above = eye * factor, above * factor
     low, high = sightline.ends[0] + eye, sightline.ends[1] + above
     places = list(sightline.ground())
     unit = Fraction(1, 10**heights.decimals)
@@ -175,5 +183,5 @@ def profile_of(heights: Heights, start: Cell, end: Cell, eye: int, above: int) -
     return Profile([along for along, _ in places], [None if ground is None else ground * unit for _, ground in places],
                    [(low + (high - low) * along) * unit for along, _ in places], sightline.is_seen(eye, above),
                    None if worst is None else replace(worst, excess=worst.excess * unit),
-                   *(Decimal(units).scaleb(-heights.decimals)
+                   *(Decimal(-(-units // factor)).scaleb(-decimals)
                      for units in (sightline.least_eye(above), sightline.least_target(eye))))

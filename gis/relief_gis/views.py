@@ -12,7 +12,7 @@ from typing import TYPE_CHECKING, Callable, List, Mapping, Sequence, Tuple
 
 import numpy as np
 
-from .curvature import drop_of_a_cell, lowered
+from .curvature import coarser, curved, drop_of_a_cell, finer
 from .draft import Draft, save_drafts, write_text
 from .errors import InputError
 from .frame import Window
@@ -205,21 +205,22 @@ class _Run:
         """Maps what one observer sees, of the heights of its box."""
         request, = views(self.job, [observer.point], self.raster.frame.part(observer.box.window), near.decimals,
                          self.cells)
+        decimals = near.decimals
         if self.job.curvature:
-            near = lowered(near, (request.places[0].row, request.places[0].col), self.drop)
+            request, near = curved(request, near, self.drop)
         counts: List[int] = []
 
         def add(found: np.ndarray, row: int) -> None:
             counts.append(int(np.count_nonzero(found > 0)))
             if not self.job.each:
-                self._add(observer.box.part(row, len(found)), found)
+                self._add(observer.box.part(row, len(found)), coarser(self.job.map, found, finer(near, decimals)))
 
         # What is summed up need not be kept.
         found = self.caller.make(request, near, self.program, add, self.job.each)
         if self.job.each:
-            self._put_band(observer, found, draft)
+            self._put_band(observer, coarser(self.job.map, found, finer(near, decimals)), draft)
         if self.job.visibility is not None:
-            self.rows += rows_of(observer.number, self.names, self.places, observer.box.corner, near,
+            self.rows += rows_of(observer.number, self.names, self.places, decimals, observer.box.corner, near,
                                  request.radius, sum(counts), self.raster.frame)
 
     def _put_band(self, observer: Observer, found: np.ndarray, draft: Draft) -> None:

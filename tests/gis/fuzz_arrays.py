@@ -199,14 +199,17 @@ def curved_view(arguments, land, observers, decimals):
     side, refraction = (Fraction(str(arguments[name])) for name in ("cell", "refraction"))
     drop = (1 - refraction) * side ** 2 / (2 * arguments["earth"]) * 10 ** decimals
     counts = dict.fromkeys(land, 0)
-    for observer in observers:
+    for place, eye, above, radius in observers:
+        factor = judge.finer_units(decimals, max(eye, above))
+        if max(map(abs, land.values()), default=0) * factor > 10 ** 14:
+            raise Unknown("heights past what the finer units may have")
         lowered = {}
         for (row, col), height in land.items():
-            units = drop * ((row - observer[0][0]) ** 2 + (col - observer[0][1]) ** 2)
+            units = drop * factor * ((row - place[0]) ** 2 + (col - place[1]) ** 2)
             if abs(units % 1 - Fraction(1, 2)) < Fraction(1, 10 ** 6):
                 raise Unknown("a drop of half a unit")
-            lowered[row, col] = height - round(units)
-        for cell, seen in judge.view(lowered, [observer]).items():
+            lowered[row, col] = height * factor - round(units)
+        for cell, seen in judge.view(lowered, [(place, eye * factor, above * factor, radius)]).items():
             counts[cell] += seen
     return counts
 

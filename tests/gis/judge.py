@@ -138,6 +138,17 @@ def least_seen(sees):
     return seen
 
 
+def finer_units(decimals, given, most=6):
+    """How many finer units make one where the ground curves: they have so many decimals at most, or fewer.
+
+    The greatest of an eye and a target has at most a million of them.
+    """
+    factor = 1
+    while decimals < most and given * factor * 10 <= HIGHEST_EYE:
+        decimals, factor = decimals + 1, factor * 10
+    return factor
+
+
 def is_seen(land, target, observer, eye, above, radius):
     """Whether an observer sees a target, both with data."""
     rows, cols = target[0] - observer[0], target[1] - observer[1]

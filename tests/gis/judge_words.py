@@ -94,7 +94,7 @@ def column(scene, options, given, found, index, name, default):
 def view_of(scene, options):
     """How many observers see each cell, with the earth's curvature where it counts."""
     counts = dict.fromkeys(scene.land, 0)
-    for land, found in lands_of(scene, options):
+    for land, found, _ in lands_of(scene, options, 6):
         for place, seen in judge.view(land, found).items():
             counts[place] += seen
     return counts
@@ -103,25 +103,38 @@ def view_of(scene, options):
 def rise_of(scene, options):
     """The least height of a target that an observer sees, with the earth's curvature where it counts."""
     heights = {}
-    for land, found in lands_of(scene, options):
+    for land, found, factor in lands_of(scene, options, 2):
         for place, units in judge.rise(land, [(cell, eye, radius) for cell, eye, _, radius in found]).items():
+            units = -(-units // factor)
             heights[place] = min(units, heights.get(place, units))
     return {place: Fraction(units, 10 ** scene.decimals) for place, units in heights.items()}
 
 
-def lands_of(scene, options):
-    """The land as it lies for observers, and these: all, or each by itself where the earth's curvature counts."""
+def lands_of(scene, options, decimals):
+    """The land as it lies for observers, and these: all, or each by itself where the earth's curvature counts.
+
+    Then both are in finer units, of at most so many decimals; how many of them make one is the third.
+    """
     found = observers(scene, options)
     if "curvature" not in options:
         if "refraction" in options:
             raise Refused("refraction of no curvature")
-        return [(scene.land, found)]
+        return [(scene.land, found, 1)]
     refraction = number(options.get("refraction", ["0.13"])[-1])
     if not 0 <= refraction <= 1:
         raise Refused("no share")
     drop = (1 - refraction) * scene.square_of_cell() / (2 * scene.height_unit()) * 10 ** scene.decimals
-    return [({place: height - nearest(drop * ((place[0] - cell[0]) ** 2 + (place[1] - cell[1]) ** 2))
-              for place, height in scene.land.items()}, [(cell, *rest)]) for cell, *rest in found]
+    return [curved(scene, drop, observer, judge.finer_units(scene.decimals, max(observer[1:3]), decimals))
+            for observer in found]
+
+
+def curved(scene, drop, observer, factor):
+    """A land as it lies for one observer, and this one, in finer units; how many of them make one."""
+    cell, eye, above, radius = observer
+    if max(map(abs, scene.land.values())) * factor > 10 ** 14:
+        raise Unknown("heights past what the finer units may have")
+    return {place: height * factor - nearest(drop * factor * ((place[0] - cell[0]) ** 2 + (place[1] - cell[1]) ** 2))
+            for place, height in scene.land.items()}, [(cell, eye * factor, above * factor, radius)], factor
 
 
 def nearest(units):

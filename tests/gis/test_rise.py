@@ -98,11 +98,14 @@ class Rise(Views):
                 found = relief_gis.rise(self.array, observers, nodata=NODATA, radius=radius)
                 self.assertEqual(found.dtype, np.int64)
                 np.testing.assert_array_equal(found, self.wanted([(*mast[:3], radius) for mast in masts]))
-                # The rise of each cell is the least target that is seen.
-                risen = relief_gis.rise(self.array, observers, nodata=NODATA, radius=radius, **curved)
-                for target in sorted(set(risen[risen >= 0].tolist()))[:6]:
-                    seen = relief_gis.view(self.array, observers, nodata=NODATA, radius=radius, target=target, **curved)
-                    np.testing.assert_array_equal(seen > 0, (risen >= 0) & (risen <= target))
+                # The rise of each cell is the least target that is seen, on a curved earth within its units of 0.01.
+                for more, rounding in (({}, 0), (curved, 1)):
+                    risen = relief_gis.rise(self.array, observers, nodata=NODATA, radius=radius, **more)
+                    for target in sorted(set(risen[risen >= 0].tolist()))[:6]:
+                        seen = relief_gis.view(self.array, observers, nodata=NODATA, radius=radius, target=target,
+                                               **more) > 0
+                        low, high = ((risen >= 0) & (risen <= target + by) for by in (-rounding, rounding))
+                        self.assertTrue((seen >= low).all() and (seen <= high).all())
 
     def test_refused(self):
         self.write(np.zeros((3, 4)))

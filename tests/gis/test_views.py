@@ -1,11 +1,8 @@
-"""Views by parts of a raster, for each mast, and on the curved earth, against the judge's plain reading."""
+"""Views by parts of a raster and for each mast, against the judge's plain reading."""
 import csv
 import random
-import shutil
-import subprocess
 import unittest
 import unittest.mock
-from fractions import Fraction
 
 import numpy as np
 from osgeo import gdal
@@ -14,7 +11,6 @@ import judge
 from fixtures import Case, at, centre, hills, make_points, make_raster, read
 
 NODATA = -9999
-SEMI_MAJOR = 6378137
 
 
 def land_of(array):
@@ -31,15 +27,6 @@ def boxes_of(shape, masts):
 def observers_of(masts):
     """Masts as the judge takes them."""
     return [((row, col), eye, above, radius) for row, col, eye, above, radius in masts]
-
-
-def seen_over_a_plane(eye, share):
-    """How many cells of 1 km in a row see an eye of so many metres in the first one, over ground that curves.
-
-    Cell n hides behind the one before it where n (n - 1) is past the square of the distance of the horizon.
-    """
-    square = 2 * SEMI_MAJOR * eye / share / 1000**2
-    return max(n for n in range(1, 99) if n * (n - 1) <= square) + 1
 
 
 class Views(Case):
@@ -232,82 +219,6 @@ class Each(Views):
                     continue
                 sights = [judge.is_seen(land, other[:2], (row, col), eye, height, None) for height in range(99)]
                 yield number, sum(seen.values()), place, int(sights[other[2]]), sights.index(True)
-
-
-class Curvature(Views):
-    """Ground that lies lower far from a mast."""
-
-    def lowered(self, land, cell, share, unit=1.0):
-        """A land with the heights that the formula gives, by exact numbers."""
-        return {place: height - round(Fraction(share) * (30 * 30 * ((place[0] - cell[0])**2 + (place[1] - cell[1])**2))
-                                      / (2 * SEMI_MAJOR) * Fraction(unit)) for place, height in land.items()}
-
-    def test_against_the_judge(self):
-        # Centimetres, by which the drop shows over 40 cells of 30 m: at most 0.11 m.
-        ground = np.random.default_rng(8).integers(0, 30, (12, 45))
-        self.write(ground)
-        dataset = gdal.Open(str(self.folder / "dem.tif"), gdal.GA_Update)
-        dataset.GetRasterBand(1).SetScale(0.01)
-        del dataset
-        masts = [(3, 2, 0, 0, 60), (8, 40, 0, 0, 60)]
-        for words, share in (([], "0.87"), (["--refraction", "0"], "1"), (["--refraction", "0.25"], "0.75")):
-            self.make("view", "dem.tif", "out.tif", *[word for mast in masts for word in at(*mast[:2])], "--eye", "0.2",
-                      "--curvature", *words)
-            found = read(self.folder / "out.tif")
-            wanted = {cell: 0 for cell in land_of(self.array)}
-            for row, col, *_ in masts:
-                land = self.lowered(land_of(self.array), (row, col), share, 100)
-                for cell, seen in judge.view(land, [((row, col), 20, 0, None)]).items():
-                    wanted[cell] += seen
-            self.assertEqual({cell: int(found[cell]) for cell in wanted}, wanted, share)
-        flat = judge.view(land_of(self.array), [(mast[:2], 20, 0, None) for mast in masts])
-        self.assertNotEqual(flat, wanted)
-
-    def test_a_plane_ends_at_the_horizon(self):
-        # From an eye of 10 m over a plane, cells of 1 km, the ground is seen as far as the ray grazes the sea.
-        placed = (500000.0, 1000.0, 0.0, 5200000.0, 0.0, -1000.0)
-        make_raster(self.folder / "dem.tif", np.zeros((1, 40), np.float32), placed=placed)
-        for words, share in (([], 0.87), (["--refraction", "0"], 1.0)):
-            self.make("view", "dem.tif", "out.tif", "--at", "500500,5199500", "--eye", "10", "--curvature", *words,
-                      "--decimals", "4")
-            self.assertEqual(int(read(self.folder / "out.tif").sum()), seen_over_a_plane(10, share))
-
-    def test_refused(self):
-        make_raster(self.folder / "dem.tif", hills(decimals=0).astype(np.int16), projection="")
-        view = ["view", "dem.tif", "out.tif", *at(4, 5), "--eye", "3"]
-        self.refuse(2, "--curvature takes lengths in metres, and the raster has no projection", *view, "--curvature",
-                    "--no-projection")
-        make_raster(self.folder / "dem.tif", hills(decimals=0).astype(np.int16), unit="furlong")
-        self.refuse(2, "--curvature takes heights in metres or feet, and those of the raster are in furlong", *view,
-                    "--curvature")
-        self.refuse(1, "--refraction is a share of the earth's curvature", *view, "--refraction", "0.1")
-        self.refuse(1, "the refraction 1.5 is not 0 to 1", *view, "--curvature", "--refraction", "1.5")
-
-    @unittest.skipUnless(shutil.which("gdal_viewshed"), "no gdal_viewshed")
-    def test_as_gdal_viewshed(self):
-        """The least heights at which targets on a plane are seen, 5, 10 and 20 km away, as GDAL has them."""
-        placed = (500000.0, 100.0, 0.0, 5200000.0, 0.0, -100.0)
-        make_raster(self.folder / "dem.tif", np.zeros((3, 260), np.float32), placed=placed)
-        subprocess.run(["gdal_viewshed", "-q", "-ox", "500050", "-oy", "5199850", "-oz", "0.5", "-md", "26000", "-cc",
-                        "0.857", "-om", "GROUND", "dem.tif", "least.tif"], cwd=self.folder, check=True)
-        theirs = read(self.folder / "least.tif")
-        masts = [word for km in (0, 5, 10, 20) for word in ("--at", f"{500050 + 1000 * km},5199850")]
-        self.make("view", "dem.tif", "out.tif", *masts, "--eye", "0.5", "--curvature", "--refraction", "0.143",
-                  "--decimals", "4", "--visibility", "who.csv")
-        with open(self.folder / "who.csv", newline="") as file:
-            ours = {row["other"]: float(row["least_height"]) for row in csv.DictReader(file) if row["number"] == "1"}
-        for number, km in (("2", 5), ("3", 10), ("4", 20)):
-            # A drop is rounded to 0.0001 m, near the horizon at 2.7 km: the rounding grows with the distance.
-            self.assertAlmostEqual(ours[number], theirs[1, 10 * km], delta=0.0002 * km / 2.7)
-            self.assertGreater(ours[number], 0.3)
-
-    def test_feet(self):
-        """A drop in feet is that in metres over 0.3048."""
-        placed = (500000.0, 1000.0, 0.0, 5200000.0, 0.0, -1000.0)
-        make_raster(self.folder / "dem.tif", np.zeros((1, 40), np.float32), placed=placed, unit="ft")
-        self.make("view", "dem.tif", "out.tif", "--at", "500500,5199500", "--eye", "30", "--curvature", "--decimals",
-                  "4")
-        self.assertEqual(int(read(self.folder / "out.tif").sum()), seen_over_a_plane(30 * 0.3048, 0.87))
 
 
 if __name__ == "__main__":
