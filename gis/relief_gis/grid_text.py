@@ -15,7 +15,7 @@ from .errors import InputError
 from .heights import Heights
 
 HEADER_LINES = 6
-ZERO, MINUS, SPACE, LINE_FEED = b"0- \n"
+ZERO, NINE, MINUS, SPACE, LINE_FEED = b"09- \n"
 # What is read at once, in bytes, for the same reason as blocks; how many rows are given on at once.
 PIECE = 1 << 19
 STRIP = 256
@@ -41,6 +41,7 @@ DIGIT_BITS = np.array([0x0F0F0F0F0F0F0F >> 8 * (DIGITS - it) << 8 * (DIGITS - it
                        for it in (0, *range(DIGITS + 1))], "<u8")
 # Factors by which pairs, and pairs of pairs, become one number, and the bits of pairs.
 PAIRS, FOURS, PAIR_BITS = np.uint64(10 << 8 | 1), np.uint64(100 << 16 | 1), np.uint64(0x00FF00FF00FF00FF)
+LOWER_HALF, TEN_THOUSAND = np.uint32(16), np.uint32(10_000)
 # So many bytes lie before those of a text of which numbers are taken.
 AHEAD = 8
 
@@ -266,47 +267,49 @@ def _pieces(file: Source) -> Iterator[np.ndarray]:
 
 def _numbers(text: np.ndarray) -> np.ndarray:
     """The numbers of words, each of which a space or a line feed ends, behind AHEAD further bytes."""
-    words = text[AHEAD:]
-    # Where digits end.
-    ends = np.flatnonzero(words - np.uint8(ZERO) > 9)
-    letters = words.take(ends, mode="clip")
-    is_minus = letters == MINUS
-    steps = np.empty_like(ends)
-    steps[0] = ends[0] + 1
-    np.subtract(ends[1:], ends[:-1], out=steps[1:])
-    if (np.count_nonzero(letters <= SPACE) + np.count_nonzero(is_minus) != ends.size or steps.max() > MOST_DIGITS + 1
-            or not np.array_equal(steps == 1, is_minus) or np.any(is_minus[1:] & is_minus[:-1])):
+    text[AHEAD - 1] = SPACE
+    # The place before the first word, and those behind all words.
+    places = np.flatnonzero(text[AHEAD - 1:] <= SPACE)
+    before, ends = places[:-1], places[1:]
+    steps, words = ends - before, text[AHEAD:]
+    others, is_minus = np.count_nonzero(words < ZERO) - ends.size, None
+    if others:
+        is_minus = words.take(before, mode="clip") == MINUS
+        steps -= is_minus
+        others -= np.count_nonzero(is_minus)
+    most = int(steps.max()) - 1
+    if others or words.max() > NINE or steps.min() < 2 or most > MOST_DIGITS:
         raise InputError(NO_NUMBERS)
     numbers = _last_digits(text, ends, steps)
-    for place in range(DIGITS, int(steps.max()) - 1, DIGITS):
+    for place in range(DIGITS, most, DIGITS):
         longer = np.flatnonzero(steps > place + 1)
         numbers = numbers.astype(np.int64)
         numbers[longer] += _last_digits(text, ends[longer] - place, steps[longer] - place).astype(np.int64) * 10**place
         if numbers.min() < 0:
             # Past what 64 bits hold.
             raise InputError(NO_NUMBERS)
-    if is_minus.any():
-        numbers[1:] *= 1 - 2 * is_minus[:-1].view(np.int8)
-        numbers = numbers[~is_minus]
+    if is_minus is not None:
+        np.negative(numbers, out=numbers, where=is_minus)
     return numbers
 
 
 def _last_digits(text: np.ndarray, ends: np.ndarray, steps: np.ndarray) -> np.ndarray:
-    """The numbers of the last DIGITS digits before letters, by machine's words of eight bytes.
+    """The numbers of the last DIGITS digits before places, by machine's words of eight bytes.
 
     Args:
-        text: AHEAD bytes, and those to which ends refer.
-        ends: the places of letters.
-        steps: how far each lies behind the letter before it, from 1 on.
+        text: AHEAD bytes, and others; place 0 is the last one of the former.
+        ends: the places.
+        steps: one more than the digits before each.
     """
-    # The eight bytes that end with each letter.
-    found = np.ndarray(text.size - AHEAD, "<u8", text, AHEAD - DIGITS, (1,))[ends]
+    # The eight bytes that end with each place.
+    found = np.ndarray(text.size - DIGITS, "<u8", text, 0, (1,))[ends]
     found &= DIGIT_BITS.take(steps, mode="clip")
     found *= PAIRS
     found &= PAIR_BITS
     found *= FOURS
     # Of four numbers of 16 bits the second has three digits, and the last one four.
-    fours = found.view("<u2")
-    numbers = np.multiply(fours[1::4], 10**4, dtype=np.int32)
-    numbers += fours[3::4]
-    return numbers
+    halves = found.view("<u4")
+    halves >>= LOWER_HALF
+    numbers = halves[::2] * TEN_THOUSAND
+    numbers += halves[1::2]
+    return numbers.view("<i4")
