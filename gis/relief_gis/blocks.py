@@ -12,10 +12,10 @@ Item = TypeVar("Item")
 Result = TypeVar("Result")
 
 # A call of numpy takes so long that threads seldom wait for Python's lock, and not all of a processor's cache.
-CELLS = 1 << 16
+CELLS = 1 << 17
 MOST_THREADS = 8
 # Arrays up to this size, of blocks and strips, are freed for reuse.
-KEPT = 5 << 19
+KEPT = 5 << 20
 # How many calls of `Behind` wait at most.
 MOST_BEHIND = 1
 PROCESSORS = len(os.sched_getaffinity(0)) if hasattr(os, "sched_getaffinity") else os.cpu_count() or 1
