@@ -86,7 +86,7 @@ class Memory(Case):
 
     def test_bytes_for_each_further_cell(self):
         # Python, its modules and buffers need the rest, which is at most 7 bytes a cell of the largest grid.
-        small, large = 1000, 2500
+        small, large = 1500, 3000
         for name, most in (("fill", 14), ("area", 15), ("catchments", 14), ("accumulate", 20)):
             self.assertLess(self.peak(name, large) - self.peak(name, small), most * (large**2 - small**2), name)
 
