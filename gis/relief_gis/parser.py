@@ -279,8 +279,12 @@ def _window(word: str) -> tuple:
 
 
 def _threshold(word: str) -> Union[int, Measure]:
+    """A number of cells, or an area."""
     if not word.endswith(tuple(AREAS)):
-        return _whole(word)
+        try:
+            return _whole(word)
+        except argparse.ArgumentTypeError as error:
+            raise argparse.ArgumentTypeError(f"{error}, and no area in {', '.join(AREAS)}, as 5ha") from None
     try:
         found = measure_of(word, AREAS, "the area")
     except UsageError as error:

@@ -76,12 +76,13 @@ def run_profile(job: ProfileJob, say: Say, tell: Say) -> Profile:
     decimals = heights.decimals
     eye, above = (whole_units(height, decimals, f"the {name}")
                   for height, name in ((job.eye, "eye"), (job.above, "target")))
+    ground = [Fraction(int(heights.units[cell]), 10**decimals) for cell in (start, end)]
     if job.curvature:
         drop = drop_of_a_cell(terrain.frame, terrain.unit, decimals, job.refraction)
         heights = lowered(heights, start, drop, max(eye, above))
     profile = profile_of(heights, start, end, eye, above, decimals)
     line = Line(terrain.frame, start, end)
-    for text in _answer(job, profile, line, decimals):
+    for text in _answer(job, profile, line, ground, decimals):
         tell(text)
     _write(job, profile, line, decimals, say)
     return profile
@@ -125,12 +126,12 @@ def _ground_between(job: ProfileJob, raster: Raster) -> Tuple[Terrain, Cell, Cel
     return terrain, (start[0] - top, start[1] - left), (end[0] - top, end[1] - left)
 
 
-def _answer(job: ProfileJob, profile: Profile, line: Line, decimals: int) -> Iterator[str]:
-    """What is told of a line of sight."""
+def _answer(job: ProfileJob, profile: Profile, line: Line, ends: Sequence[Fraction], decimals: int) -> Iterator[str]:
+    """What is told of a line of sight, between two heights of the ground as they were read."""
     unknown = sum(ground is None for ground in profile.ground)
-    ends = [plain(profile.ground[at]) for at in (0, -1)]
-    yield (f"from {_words(line.place(Fraction(0)))}, ground {ends[0]}, to {_words(line.place(Fraction(1)))}, ground "
-           f"{ends[1]}: {line.length:.{LENGTH_DECIMALS}f} long")
+    lower = f", by the curvature {_height(ends[1] - profile.ground[-1], decimals)} lower" if job.curvature else ""
+    yield (f"from {_words(line.place(Fraction(0)))}, ground {plain(ends[0])}, to {_words(line.place(Fraction(1)))}, "
+           f"ground {plain(ends[1])}{lower}: {line.length:.{LENGTH_DECIMALS}f} long")
     if unknown:
         yield f"no data at {unknown:,} places of the line, which block no view"
     worst = profile.worst

@@ -4,6 +4,7 @@ import csv
 import io
 import os
 import random
+import re
 import subprocess
 import sys
 import unittest
@@ -167,6 +168,11 @@ class Command(Case):
                 continue
             out = self.run_profile("wide.tif", "--from", point, "--to", "{},{}".format(*centre(*cell, placed)), *words)
             self.assertEqual("\nseen: " in out, bool(found[cell]), cell)
+            # The ground as it was read, and how much lower it lies: by hand, with four decimals.
+            drop = 0.8 * 3000**2 * ((cell[0] - 4)**2 + (cell[1] - 5)**2) / (2 * 6378137)
+            told = re.search(r", ground (\S+), by the curvature (\S+) lower: ", out)
+            self.assertEqual(float(told[1]), round(float(self.heights[cell]), 2))
+            self.assertAlmostEqual(float(told[2]), drop, delta=0.0001)
             seen += found[cell]
         self.assertTrue(0 < seen < 39)
 

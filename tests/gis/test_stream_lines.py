@@ -75,6 +75,9 @@ class Streams(Case):
             np.testing.assert_array_equal(read(self.folder / "out.tif"), counts >= least, word)
         for word in ("-1ha", "ha", "8 acres", "1.5"):
             self.refuse(1, "--threshold", "streams", "dem.tif", "more.tif", f"--threshold={word}")
+        for word in ("5km", "9m", "5HA", "ten"):
+            self.refuse(1, f"{word} is no number of cells, from 0, and no area in m2, ha, km2, as 5ha", "streams",
+                        "dem.tif", "more.tif", "--threshold", word)
         make_raster(self.folder / "bare.tif", hills().astype(np.float32), projection="")
         self.refuse(1, "8ha takes a projection, and the raster has none", "streams", "bare.tif", "more.tif",
                     "--threshold", "8ha", "--no-projection")
