@@ -14,7 +14,7 @@ use Rattle.terrain.proofs.Listed.{place_is, is_place_from}
 use Rattle.drainage.specs.Following.{Directed, code_at, follow, moves}
 use Rattle.flow.specs.Counts.{accumulation, drains_through}
 use Rattle.flow.specs.Catchments.{gauge_number, catchment}
-use Rattle.flow.proofs.CutPaths.{cases_first, found_next, position_push}
+use Rattle.flow.proofs.CutPaths.{cases_first, found_next, position_push, or_zero}
 use Rattle.flow.proofs.Coded.{IsCoded, cases_coded, coded_along, follow_more}
 use Rattle.flow.proofs.DrainedCells.{one_more, counted_on, drains_itself, other_test, counted}
 use Rattle.flow.proofs.Reaching.{IsEnding, reached_early, drains_at, drains_from}
@@ -62,8 +62,8 @@ same_gauge gauges p q a b same =
     let at : u.at ≡ v.at = omega (
       arith,
       same,
-      ap (λ (o : Option ℕ). unwrap_or o 0) u.found,
-      ap (λ (o : Option ℕ). unwrap_or o 0) v.found,
+      ap or_zero u.found,
+      ap or_zero v.found,
     ) in
     place_is p (get_or gauges u.at p) (u.passes p) ∙ ap (λ k. get_or gauges k p) at
     ∙ sym (place_is q (get_or gauges v.at p) (v.passes p))
@@ -71,7 +71,7 @@ same_gauge gauges p q a b same =
 pub some_number : (gauges : List Place) (p : Place) → list_any (is_place p) gauges ≡ true →
     0 < gauge_number gauges p
 some_number gauges p a = let u = position_of (is_place p) 1 gauges a in
-    omega (arith, ap (λ (o : Option ℕ). unwrap_or o 0) u.found)
+    omega (arith, ap or_zero u.found)
 
 -- A gauge g on a data cell, through which no other gauge drains.
 module _ {d : Directed} (s : IsEnding d) (gauges : List Place) {g : Place} (is : IsCoded d g)
@@ -132,7 +132,7 @@ module _ {d : Directed} (s : IsEnding d) (gauges : List Place) {g : Place} (is :
       ∙ one_more s (λ q.
       counted d (catchment d gauges q == gauge_number gauges g) q)
       (λ q.
-      cond {A = ℕ} (is_some (code_at d q) && not (is_place g q) && drains_through d g q) 1 0) g is
+      cond {A = ℕ} (is_some (code_at d q) && not (is_place g q) && drains_through d g q) 1 0) is
       (λ q ne. elim (cases_coded d q) [
         | inl none ↦
             let off : is_some (code_at d q) ≡ false = ap is_some none in
@@ -175,7 +175,7 @@ module _ (d : Directed) (gauges : List Place) (g p : Place)
   found_same zero le = refl
   found_same (suc n) le =
       found_next is_new (follow d p) n
-      ∙ ap (λ (o : Option Place). option_or o
+      ∙ ap (λ o. option_or o
       (cond (is_new (follow d p n)) (Some (follow d p n)) None)) (found_same n (omega arith))
       ∙ ap (λ b. option_or (find is_old (map (follow d p) (range_with_len 0 n)))
       (cond b (Some (follow d p n)) None)) (same_test n (omega arith))
@@ -185,7 +185,7 @@ module _ (d : Directed) (gauges : List Place) (g p : Place)
       gauge_number (gauges ++ g ∷ []) q ≡ gauge_number gauges q
   kept_number q old =
       let u = position_of (is_place q) 1 gauges old in
-      ap (λ (o : Option ℕ). unwrap_or o 0) (position_push (is_place q) 1 gauges g
+      ap or_zero (position_push (is_place q) 1 gauges g
       ∙ ap (λ (o : Option ℕ).
       option_or o (cond (is_place q g) (Some (1 + length gauges)) None)) u.found ∙ sym u.found)
 

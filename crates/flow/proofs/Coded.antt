@@ -46,11 +46,11 @@ follow_first d p k = let z : 1 + k ≡ suc k = omega arith in follow_more d p 1 
 abbrev pub StopsAt : Directed → Place → ℕ → Type 0
 StopsAt d p k = next d (follow d p k) ≡ follow d p k
 
-pub stops_sooner : (d : Directed) (p e : Place) (k n : ℕ) → follow d p (suc k) ≡ e →
+pub stops_sooner : (d : Directed) (p : Place) {e : Place} (k n : ℕ) → follow d p (suc k) ≡ e →
     StopsAt d p (suc n) → StopsAt d e n
-stops_sooner d p e k n way stop =
+stops_sooner d p {e} k n way stop =
     let later : follow d e n ≡ follow d p (suc n) =
-    ap (λ (q : Place). follow d q n) (sym way) ∙ follow_more d p (suc k) n
+    ap (λ q. follow d q n) (sym way) ∙ follow_more d p (suc k) n
     ∙ follow_stays d p (suc n) (suc k + n) (omega arith) stop in
     ap (next d) later ∙ stop ∙ sym later
 
@@ -58,7 +58,7 @@ stops_sooner d p e k n way stop =
 pub cycle_stops : (d : Directed) (n : ℕ) {p : Place} (k : ℕ) → follow d p (suc k) ≡ p →
     StopsAt d p n → next d p ≡ p
 cycle_stops d zero k way stop = stop
-cycle_stops d (suc n) {p} k way stop = cycle_stops d n k way (stops_sooner d p p k n way stop)
+cycle_stops d (suc n) {p} k way stop = cycle_stops d n k way (stops_sooner d p k n way stop)
 
 pub coded_along : {d : Directed} → AllFlowEnds d → {p : Place} → IsCoded d p → (k : ℕ) →
     IsCoded d (follow d p k)

@@ -161,12 +161,12 @@ module _ {t : Cutting} {codes : List (Option ℕ)} {flows : List Flow} {inflows 
     countable : IsCountable inflows tile f
     countable =
         let made : links_by f.bounds f.codes ≡ links_by (bounds_of t tile) f.codes =
-        ap (λ (b : Bounds). links_by b f.codes) right.bounds in
+        ap (λ b. links_by b f.codes) right.bounds in
         record {
           bounds = right.bounds
-              ∙ ap (λ (x : Cutting). bounds_of x tile) (sym s.are_inflows.cutting);
+              ∙ ap (λ x. bounds_of x tile) (sym s.are_inflows.cutting);
           size = of_cells.size
-              ∙ ap (λ (x : Cutting). cell_count x tile) (sym s.are_inflows.cutting);
+              ∙ ap (λ x. cell_count x tile) (sym s.are_inflows.cutting);
           linked = same_sizes made;
           few = omega (
             arith,
@@ -182,7 +182,7 @@ module _ {t : Cutting} {codes : List (Option ℕ)} {flows : List Flow} {inflows 
           totals_fit = λ weights weighed i h. omega (
             arith,
             total_drained made
-                (subst (λ (x : Cutting). AreInflowWeights inflows (bounds_of x tile) weights)
+                (subst (λ x. AreInflowWeights inflows (bounds_of x tile) weights)
                 s.are_inflows.cutting weighed) i
                 (omega (arith, h, same_sizes made)),
             drained_few ending (place_in (bounds_of t tile) i),
@@ -197,13 +197,13 @@ module _ {t : Cutting} {codes : List (Option ℕ)} {flows : List Flow} {inflows 
     entry_counted {values} are p i =
         let h = in_bounds t tile p s.are_flows.cutting i in
         let made : links_by f.bounds f.codes ≡ links_by (bounds_of t tile) f.codes =
-        ap (λ (b : Bounds). links_by b f.codes) right.bounds in
-        let weighed = subst (λ (x : Cutting). AreInflowWeights inflows (bounds_of x tile) are.weights)
+        ap (λ b. links_by b f.codes) right.bounds in
+        let weighed = subst (λ x. AreInflowWeights inflows (bounds_of x tile) are.weights)
         s.are_inflows.cutting are.weighed in
         let links = links_by f.bounds f.codes in
-        match_data (code_at (directed_on t codes) p) _ _ _
+        match_data (code_at (directed_on t codes) p) _ _
         (tile_entry-in t tile values p i
-        ∙ ap (λ (l : List (Option ℕ)). get_or l (index_in (bounds_of t tile) p) None) are.made
+        ∙ ap (λ l. get_or l (index_in (bounds_of t tile) p) None) are.made
         ∙ count_entry (lists made)
         (λ i. slice_index are.totals i + slice_index are.added i) p h)
         (λ code is. count_is made weighed are.counted

@@ -48,7 +48,7 @@ cut_next {cols = cols} {rows = rows} gauges k {cut = cut} d size below inside ma
       at_gauges = λ p named. elim (cases_place p g) [
         | inl same ↦
             ap (λ l. entry_at cols rows l p) made
-            ∙ ap (λ (q : Place). entry_at cols rows (set cut (index_of cols g) (Some 0)) q) same
+            ∙ ap (entry_at cols rows (set cut (index_of cols g) (Some 0))) same
             ∙ entry-inside cols rows (set cut (index_of cols g) (Some 0)) g inside.0 inside.1
             ∙ get_or-set_at cut (index_of cols g) (index_of cols g) (Some 0) None refl
             (omega (arith, index_below cols rows g inside.0 inside.1, size, was.size))
@@ -87,7 +87,7 @@ pub index_at : {cols n : ℕ} (gauges : List Place) (k : ℕ) {i : ℕ} (d e : P
     n ≡ cols → i ≡ index_of n (get_or gauges k d) → i ≡ index_of cols (get_or gauges k e)
 index_at {cols} gauges k d e below same read =
     read ∙ ap (λ m. index_of m (get_or gauges k d)) same
-    ∙ ap (λ (q : Place). index_of cols q) (get_or_default gauges k d e below)
+    ∙ ap (index_of cols) (get_or_default gauges k d e below)
 
 -- If row-order index i has a number by the first k gauges, it has the same number by the first
 -- k + 1. If not, its number by these is k + 1 if gauge k, counted from 0, has index i, else `None`.

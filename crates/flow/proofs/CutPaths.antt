@@ -19,9 +19,12 @@ use Rattle.flow.specs.CutCodes.{HaveCodes, AreCutCodes, number_of_index}
 use Rattle.flow.specs.Numbering.{EndNumbers, end_number}
 use Rattle.flow.specs.Whole.{make_directed}
 use Rattle.flow.proofs.Coded.{IsCoded, cases_coded, coded_along, coded_inside, outlet_stays, follow_stays}
-use Rattle.flow.proofs.Piece.{match_none, match_some}
 use Rattle.flow.proofs.Reaching.{IsEnding, reached_early}
 use Rattle.flow.proofs.Ranges.{mapped_next}
+
+-- The number, 0 for none.
+abbrev pub or_zero : Option ℕ → ℕ
+or_zero o = unwrap_or o 0
 
 -- Of f's values at the numbers below n, `f at` is the first that passes the test.
 pub record IsFirst {X : Type 0} (test : X → Bool) (f : ℕ → X) (n : ℕ) : Type 0 where
@@ -51,7 +54,7 @@ module _ {X : Type 0} (test : X → Bool) (f : ℕ → X) where
       passes = first.passes;
       before = first.before;
       found = found_next n
-          ∙ ap (λ (o : Option X). option_or o (cond (test (f n)) (Some (f n)) None)) first.found;
+          ∙ ap (λ o. option_or o (cond (test (f n)) (Some (f n)) None)) first.found;
     })
     | inr absent ↦ elim (cases_Bool (test (f n))) [
       | inl here ↦ inl (record {
@@ -59,7 +62,7 @@ module _ {X : Type 0} (test : X → Bool) (f : ℕ → X) where
         below = omega arith;
         passes = here;
         before = absent.fails;
-        found = found_next n ∙ ap (λ (o : Option X). option_or o (cond (test (f n))
+        found = found_next n ∙ ap (λ o. option_or o (cond (test (f n))
             (Some (f n)) None)) absent.found ∙ cond-true (test (f n)) (Some (f n)) None here;
       })
       | inr not_here ↦ inr (record {
@@ -68,7 +71,7 @@ module _ {X : Type 0} (test : X → Bool) (f : ℕ → X) where
           | inr late ↦ (let same : n ≡ j = omega (arith, late, below) in
               rw same at not_here)
         ];
-        found = found_next n ∙ ap (λ (o : Option X). option_or o (cond (test (f n))
+        found = found_next n ∙ ap (λ o. option_or o (cond (test (f n))
             (Some (f n)) None)) absent.found ∙ cond-false (test (f n)) (Some (f n)) None not_here;
       })
     ]
@@ -78,17 +81,17 @@ module _ {X : Type 0} (test : X → Bool) (f : ℕ → X) where
 pub position_push : {X : Type 0} (p : X → Bool) (i : ℕ) (xs : List X) (y : X) → position_from p i
     (xs ++ y ∷ []) ≡ option_or (position_from p i xs) (cond (p y) (Some (i + length xs)) None)
 position_push p i [] y = let z : i ≡ i + 0 = omega arith in
-    ap (λ (k : ℕ). cond (p y) (Some k) None) z
+    ap (λ k. cond (p y) (Some k) None) z
 position_push p i (x ∷ xs) y = elim (cases_Bool (p x)) [
   | inl is ↦ cond-true (p x) (Some i) _ is
-      ∙ sym (ap (λ (o : Option ℕ). option_or o (cond (p y) (Some (i + suc (length xs))) None))
+      ∙ sym (ap (λ o. option_or o (cond (p y) (Some (i + suc (length xs))) None))
       (cond-true (p x) (Some i) (position_from p (i + 1) xs) is))
   | inr isnt ↦
       let z : i + 1 + length xs ≡ i + suc (length xs) = omega arith in
       cond-false (p x) (Some i) (position_from p (i + 1) (xs ++ y ∷ [])) isnt
       ∙ position_push p (i + 1) xs y
       ∙ ap (λ (k : ℕ). option_or (position_from p (i + 1) xs) (cond (p y) (Some k) None)) z
-      ∙ sym (ap (λ (o : Option ℕ). option_or o (cond (p y) (Some (i + suc (length xs))) None))
+      ∙ sym (ap (λ o. option_or o (cond (p y) (Some (i + suc (length xs))) None))
       (cond-false (p x) (Some i) (position_from p (i + 1) xs) isnt))
 ]
 
@@ -114,11 +117,10 @@ pub position_below : {X : Type 0} (p : X → Bool) (i : ℕ) (xs : List X) →
 position_below p i [] = omega arith
 position_below p i (x ∷ xs) = elim (cases_Bool (p x)) [
   | inl is ↦ (let e : unwrap_or (position_from p (suc i) (x ∷ xs)) 0 ≡ suc i = ap
-      (λ (o : Option ℕ). unwrap_or o 0) (cond-true (p x) (Some (suc i)) _ is) in omega (arith, e))
+      or_zero (cond-true (p x) (Some (suc i)) _ is) in omega (arith, e))
   | inr isnt ↦
       let e : unwrap_or (position_from p (suc i) (x ∷ xs)) 0
-      ≡ unwrap_or (position_from p (suc i + 1) xs) 0 = ap (λ (o : Option ℕ).
-      unwrap_or o 0) (cond-false (p x) (Some (suc i)) (position_from p (suc i + 1) xs) isnt) in
+      ≡ unwrap_or (position_from p (suc i + 1) xs) 0 = ap or_zero (cond-false (p x) (Some (suc i)) (position_from p (suc i + 1) xs) isnt) in
       let z : suc i + 1 ≡ suc (suc i) = omega arith in
       omega
       (arith, e, ap (λ (k : ℕ). unwrap_or (position_from p k xs) 0) z, position_below p (suc i) xs)
@@ -159,9 +161,9 @@ module _ {d : Directed} (s : IsEnding d)
       last_of cut_d p ≡ last_of d p
   last_absent p w = follows p (moves d) w.fails
 
-  no_gauge_last : (p : Place) → IsCoded d p → IsAbsent is_gauge (follow d p) (moves d) →
+  no_gauge_last : {p : Place} → IsCoded d p → IsAbsent is_gauge (follow d p) (moves d) →
       is_gauge (last_of d p) ≡ false
-  no_gauge_last p is w = let m = reached_early s is (moves d) refl in
+  no_gauge_last is w = let m = reached_early s is (moves d) refl in
       ap is_gauge (sym m.3) ∙ w.fails m.0 m.1
 
   -- The catchment of a data cell p is the gauge number of the end of p's path in the cut map.
@@ -172,8 +174,7 @@ module _ {d : Directed} (s : IsEnding d)
         ∙ sym (ap (λ (o : Option Place). option_map_or (gauge_number gauges) o 0) w.found)
     | inr w ↦
         ap (gauge_number gauges) (last_absent p w)
-        ∙ ap (λ (o : Option ℕ).
-        unwrap_or o 0) (position_none (is_place (last_of d p)) 1 gauges (no_gauge_last p is w))
+        ∙ ap or_zero (position_none (is_place (last_of d p)) 1 gauges (no_gauge_last is w))
         ∙ sym (ap (λ (o : Option Place). option_map_or (gauge_number gauges) o 0) w.found)
   ]
 
@@ -203,7 +204,7 @@ module _ {d : Directed} (s : IsEnding d)
         | inl w ↦ ap (code_at cut_d) (last_first p w) ∙ cut.at_gauges (follow d p w.at) w.passes
         | inr w ↦
             ap (code_at cut_d) (last_absent p w)
-            ∙ cut.elsewhere (last_of d p) (no_gauge_last p is w) ∙ s.ends p is.code is.is
+            ∙ cut.elsewhere (last_of d p) (no_gauge_last is w) ∙ s.ends p is.code is.is
       ]
 
   -- Two data cells have the same row-order index exactly if they are the same cell.
@@ -215,9 +216,9 @@ module _ {d : Directed} (s : IsEnding d)
         (index_injective d.cols g q (coded_inside b).1 (coded_inside a).1 e)))) ∙ sym apart
   ]
 
-  numbered_at : (q : Place) → IsCoded d q →
+  numbered_at : {q : Place} → IsCoded d q →
       unwrap_or (number_of_index d.cols gauges (index_of d.cols q)) 0 ≡ gauge_number gauges q
-  numbered_at q is = ap (λ (o : Option ℕ). unwrap_or o 0)
+  numbered_at {q} is = ap or_zero
       (position_same (λ (g : Place). index_of d.cols g == index_of d.cols q) (is_place q) 1 gauges
       (λ k g below.
       let there = get_or gauges k g in
@@ -227,12 +228,12 @@ module _ {d : Directed} (s : IsEnding d)
   -- If `values` has for each data cell the gauge number of the place where the cell's path ends in
   -- the cut map, and `None` at NODATA, the values are the catchments.
   pub catchments_are : (n : EndNumbers) → ((i : ℕ) →
-      n.number i ≡ unwrap_or (number_of_index d.cols gauges i) 0) → (values : List (Option ℕ)) →
+      n.number i ≡ unwrap_or (number_of_index d.cols gauges i) 0) → {values : List (Option ℕ)} →
       IsMapOf cut_d (end_number cut_d n) values → IsMapOf d (catchment d gauges) values
-  catchments_are n numbers values made = record {
+  catchments_are n numbers made = record {
     size = made.size;
     each = λ p inside. elim (cases_coded d p) [
-      | inl none ↦ match_none (code_at d p) _ _ none (elim (cases_coded cut_d p) [
+      | inl none ↦ rw none (elim (cases_coded cut_d p) [
         | inl none_cut ↦ MatchOption-at_none _ _ none_cut (made.each p inside)
         | inr is ↦
             (let here = coded_from_cut is in absurd (none-some here.code (sym none ∙ here.is)))
@@ -241,10 +242,10 @@ module _ {d : Directed} (s : IsEnding d)
           let there = coded_to_cut p is in
           let last =
           coded_from_cut (coded_along cut_ends there (moves cut_d)) in
-          match_some (code_at d p) _ _ is.code is.is (
+          rw is.is (
           MatchOption-at_some _ _ there.code there.is (made.each p inside)
           ∙ ap Some (numbers (index_of d.cols (last_of cut_d p))
-          ∙ numbered_at (last_of cut_d p) last ∙ caught p is)
+          ∙ numbered_at last ∙ caught p is)
           )
     ];
   }

@@ -56,7 +56,7 @@ inflow_sum d t p = sum_of_cells (entered d t p) d.cols d.rows
 pub counted_on : {d : Directed} {q : Place} {b : Bool} → IsCoded d q → b ≡ true →
     counted d b q ≡ 1
 counted_on is y =
-    cond-true {A = ℕ} _ 1 0 (and_from _ _ (ap (λ (o : Option ℕ). is_some o) is.is) y)
+    cond-true {A = ℕ} _ 1 0 (and_from _ _ (ap is_some is.is) y)
 
 pub counted_off : (d : Directed) (q : Place) {b : Bool} → b ≡ false →
     counted d b q ≡ 0
@@ -106,23 +106,23 @@ module _ {d : Directed} (s : IsEnding d) where
   pub some_moves : 0 < moves d
   some_moves = let some : 1 * 1 ≤ moves d = mul-le-mul s.some_col s.some_row in omega arith
 
-  other_cell : (p : Place) → IsCoded d p → (j : ℕ) → j ≢ index_in (grid_of d) p →
+  other_cell : {p : Place} → IsCoded d p → (j : ℕ) → j ≢ index_in (grid_of d) p →
       cell d j ≢ p
-  other_cell p is j ne e = ne (sym (index_in-place_in (grid_of d) j)
+  other_cell is j ne e = ne (sym (index_in-place_in (grid_of d) j)
       ∙ ap (index_in (grid_of d)) e)
 
   -- If f is 1 and g is 0 at p, and they agree elsewhere, f's sum over all cells is g's plus 1.
-  pub one_more : (f g : Place → ℕ) (p : Place) → IsCoded d p → ((q : Place) → q ≢ p → f q ≡ g q) →
+  pub one_more : (f g : Place → ℕ) {p : Place} → IsCoded d p → ((q : Place) → q ≢ p → f q ≡ g q) →
       f p ≡ 1 → g p ≡ 0 →
       sum_below (λ j. f (cell d j)) (d.rows * d.cols) ≡ sum_by g (places d.cols d.rows) + 1
-  one_more f g p is same one none =
+  one_more f g {p} is same one none =
       let change = sum_below-except (λ j. f (cell d j)) (λ j. g (cell d j)) (d.rows * d.cols)
       (index_in (grid_of d) p) (cell_below s p is)
-      (λ j h ne. same (cell d j) (other_cell p is j ne)) in
+      (λ j h ne. same (cell d j) (other_cell is j ne)) in
       let here : f (cell d (index_in (grid_of d) p)) ≡ 1 =
-      ap f (cell_back s p is) ∙ one in
+      ap f (cell_back s is) ∙ one in
       let there : g (cell d (index_in (grid_of d) p)) ≡ 0 =
-      ap g (cell_back s p is) ∙ none in
+      ap g (cell_back s is) ∙ none in
       omega (arith, change, here, there, sum_of_cells g d.cols d.rows)
 
   pub other_test : (p q : Place) → q ≢ p → is_place p q ≡ false
@@ -141,7 +141,7 @@ module _ {d : Directed} (s : IsEnding d) where
   pub accumulation_is : (p : Place) → IsCoded d p → all_drained d p ≡ accumulation d p + 1
   accumulation_is p is =
       one_more (drained d p) (λ q.
-      cond {A = ℕ} (is_some (code_at d q) && not (is_place p q) && drains_through d p q) 1 0) p is
+      cond {A = ℕ} (is_some (code_at d q) && not (is_place p q) && drains_through d p q) 1 0) is
       (λ q ne. ap (λ x. cond {A = ℕ} (x && drains_through d p q) 1 0) (sym
       (and_on (is_some (code_at d q)) (not_from_false _ (other_test p q ne)))))
       (counted_on is (drains_itself p))
@@ -152,7 +152,7 @@ module _ {d : Directed} (s : IsEnding d) where
       all_drained_inside d t p ≡ through_of d t p + 1
   through_is t {p} is =
       one_more (drained_inside d t p) (λ q.
-      cond {A = ℕ} (is_some (code_at d q) && not (is_place p q) && reaches_inside d t p q) 1 0) p is
+      cond {A = ℕ} (is_some (code_at d q) && not (is_place p q) && reaches_inside d t p q) 1 0) is
       (λ q ne. ap (λ x. cond {A = ℕ} (x && reaches_inside d t p q) 1 0) (sym
       (and_on (is_some (code_at d q)) (not_from_false _ (other_test p q ne)))))
       (counted_on is (reaches_itself t p))

@@ -94,9 +94,9 @@ streams_from links inside stops = record {
       ap (next_node links) last ∙ r.2 ∙ sym last);
 }
 
-pub node_after-inside : (links : List ℕ) → AreStreams links → (i : ℕ) → i < length links → (k : ℕ) →
+pub node_after-inside : {links : List ℕ} → AreStreams links → (i : ℕ) → i < length links → (k : ℕ) →
     node_after links i k < length links
-node_after-inside links s = inside_along links s.inside
+node_after-inside {links} s = inside_along links s.inside
 
 pub node_after-first : (links : List ℕ) (i k : ℕ) →
     node_after links (next_node links i) k ≡ node_after links i (suc k)
@@ -108,24 +108,24 @@ pub node_after-stays : (links : List ℕ) {i : ℕ} → next_node links i ≡ i 
 node_after-stays links e zero = refl
 node_after-stays links {i} e (suc k) = ap (next_node links) (node_after-stays links e k) ∙ e
 
-pub end-onward : (links : List ℕ) → AreStreams links → (i : ℕ) → i < length links →
+pub end-onward : {links : List ℕ} → AreStreams links → (i : ℕ) → i < length links →
     end_of links (next_node links i) ≡ end_of links i
-end-onward links s i h = node_after-first links i (length links) ∙ s.ends i h
+end-onward {links} s i h = node_after-first links i (length links) ∙ s.ends i h
 
 -- The path of `node` ends where the path of `from` ends.
 abbrev pub SharesEnd : List ℕ → ℕ → ℕ → Type 0
 SharesEnd links from node = (node < length links) × (end_of links node ≡ end_of links from)
 
-pub next_on_path : (links : List ℕ) → AreStreams links → (from node next : ℕ) →
+pub next_on_path : {links : List ℕ} → AreStreams links → (from node : ℕ) {next : ℕ} →
     next ≡ next_node links node → SharesEnd links from node → SharesEnd links from next
-next_on_path links s from node next is on = (
+next_on_path {links} s from node is on = (
   omega (arith, is, s.inside node on.0),
-  ap (end_of links) is ∙ end-onward links s node on.0 ∙ on.1,
+  ap (end_of links) is ∙ end-onward s node on.0 ∙ on.1,
 )
 
-pub end-inside : (links : List ℕ) → AreStreams links → (i : ℕ) → i < length links →
+pub end-inside : {links : List ℕ} → AreStreams links → (i : ℕ) → i < length links →
     end_of links i < length links
-end-inside links s i h = node_after-inside links s i h (length links)
+end-inside {links} s i h = node_after-inside s i h (length links)
 
 -- The number of moves left on a path.
 abbrev pub moves_left : List ℕ → ℕ → ℕ
@@ -136,9 +136,9 @@ sum_of_next : (f : ℕ → ℕ) (n : ℕ) → sum_below (λ k. f (suc k)) n + f 
 sum_of_next f zero = refl
 sum_of_next f (suc n) = omega (arith, sum_of_next f n)
 
-pub moves_fall : (links : List ℕ) → AreStreams links → (i : ℕ) → i < length links →
+pub moves_fall : {links : List ℕ} → AreStreams links → (i : ℕ) → i < length links →
     next_node links i ≢ i → moves_left links (next_node links i) + 1 ≡ moves_left links i
-moves_fall links s i h on =
+moves_fall {links} s i h on =
     let left : ℕ → ℕ = λ k. cond {A = ℕ} (eqb (node_after links i k) (end_of links i)) 0 1 in
     let here : left zero ≡ 1 = cond-false {A =
     ℕ} _ 0 1 (ne_eqb i (end_of links i) (λ e. on (ap (next_node links) e ∙ s.ends i h ∙ sym e))) in
@@ -147,8 +147,19 @@ moves_fall links s i h on =
     sum_below-same _ (λ k. left (suc k)) (length links) (λ k _.
     ap (λ a. cond {A = ℕ} (eqb a (end_of links (next_node links i))) 0 1)
     (node_after-first links i k)
-    ∙ ap (λ b. cond {A = ℕ} (eqb (node_after links i (suc k)) b) 0 1) (end-onward links s i h)) in
+    ∙ ap (λ b. cond {A = ℕ} (eqb (node_after links i (suc k)) b) 0 1) (end-onward s i h)) in
     omega (arith, next, sum_of_next left (length links), here, last)
+
+-- one move on a path leaves fewer moves, unless it stays
+pub moves_less : {links : List ℕ} → AreStreams links → (node : ℕ) {next : ℕ} → next ≡ next_node links node →
+    (next ≡ node → ⊥) → node < length links → moves_left links next < moves_left links node
+moves_less {links} s node is on inside =
+    omega (arith, ap (moves_left links) is, moves_fall s node inside (λ e. on (is ∙ e)))
+
+-- a path ends at the node that is linked to itself
+pub ends_here : (links : List ℕ) (from : ℕ) {node next : ℕ} → next ≡ next_node links node → next ≡ node →
+    SharesEnd links from node → next ≡ end_of links from
+ends_here links from is same on = same ∙ sym (node_after-stays links (sym is ∙ same) (length links)) ∙ on.1
 
 -- The moves left, plus 1 while the node's end is unknown. The sum falls as ends are noted along a
 -- path.
@@ -156,10 +167,10 @@ abbrev pub writes_left : List ℕ → List ℕ → ℕ → ℕ
 writes_left links ends i =
     moves_left links i + cond {A = ℕ} (eqb (get_or ends i 0) unknown_entry) 1 0
 
-pub writes_fall : (links ends : List ℕ) (i last : ℕ) → AreStreams links → AreKnownEnds links ends →
+pub writes_fall : {links ends : List ℕ} (i last : ℕ) → AreStreams links → AreKnownEnds links ends →
     i < length links → get_or ends i 0 ≡ unknown_entry → last ≢ unknown_entry →
     writes_left links (set ends i last) (next_node links i) < writes_left links ends i
-writes_fall links ends i last s f h unknown known =
+writes_fall {links} {ends} i last s f h unknown known =
     let was : cond {A = ℕ} (eqb (get_or ends i 0) unknown_entry) 1 0 ≡ 1 =
     cond-true {A = ℕ} _ 1 0 (eq-eqb _ _ unknown) in
     elim (cases_eq (next_node links i) i) [
@@ -172,7 +183,7 @@ writes_fall links ends i last s f h unknown known =
       | inr on ↦ omega (
         arith,
         was,
-        moves_fall links s i h on,
+        moves_fall s i h on,
         bit_le (eqb (get_or (set ends i last) (next_node links i) 0) unknown_entry),
       )
     ]

@@ -123,7 +123,7 @@ module _ {d : Directed} {c : Cutting} {tile : ℕ} {b : Bounds} {links : List �
     met = 0;
     few = omega arith;
     way = λ l le. (let z : 0 ≡ l = omega arith in
-        subst (λ (n : ℕ). IsInBounds b (follow d (place_in b j) n)) z (in_place j h));
+        subst (λ n. IsInBounds b (follow d (place_in b j) n)) z (in_place j h));
     here = refl;
     done = inl refl;
   }
@@ -193,7 +193,7 @@ module _ {d : Directed} {c : Cutting} {tile : ℕ} {b : Bounds} {links : List �
       let at : follow d (place_in b i) t.met ≡ place_in b (end_of links i) = sym t.here
       ∙ ap (place_in b) last in
       let coded =
-      subst (λ (q : Place). IsCoded d q) at (coded_along s.ends is t.met) in
+      subst (λ q. IsCoded d q) at (coded_along s.ends is t.met) in
       let stop : next_node links (end_of links i) ≡ end_of links i = tile_streams.ends i h in
       let inside = node_inside i h (length links) in (
         t.met,
@@ -201,7 +201,7 @@ module _ {d : Directed} {c : Cutting} {tile : ℕ} {b : Bounds} {links : List �
         stays_from_way (place_in b i) t.met t.way,
         at,
         (
-          ap (λ (o : Option ℕ). is_some o) coded.is,
+          ap is_some coded.is,
           elim (cases_bounds b (next d (place_in b (end_of links i)))) [
             | inl y ↦ inl (outlet_from_stays s.ends coded
                 (sym (link_place (end_of links i) inside y) ∙ ap (place_in b) stop))

@@ -38,16 +38,16 @@ pub links_are : {d : Directed} {t : Cutting} {flows : List Flow} → AreFlowsOf 
     (record { cutting = o.cutting; flows = flows; inflows = i.listed; outlets = o.listed })
 links_are {d} {t} {flows} s {i} {o} same here inflows outlets = record {
   cutting = here;
-  inflows = λ p w. ap (λ (x : Cutting). inflow_by x i.listed p) (here ∙ sym same)
+  inflows = λ p w. ap (λ x. inflow_by x i.listed p) (here ∙ sym same)
       ∙ inflows.each p w;
   outlets = λ p x. (let w = within_of s (coded_from_some d p x.0) in
-      let inside : is_within o.cutting p ≡ true = ap (λ (c : Cutting). is_within c p) here
+      let inside : is_within o.cutting p ≡ true = ap (λ c. is_within c p) here
       ∙ and_from _ _ (lt-ltb _ _ w.0) (lt-ltb _ _ w.1) in
       cond-true {A = Option Place} _ (outlet_by o.cutting flows o.listed p) None inside
       ∙ outlets.outlets p x);
   no_outlets = λ p out. elim (cases_Bool (is_within o.cutting p)) [
     | inr f ↦ cond-false {A = Option Place} _ (outlet_by o.cutting flows o.listed p) None f
-    | inl y ↦ (let w = and_parts _ _ (sym (ap (λ (c : Cutting). is_within c p) here) ∙ y) in
+    | inl y ↦ (let w = and_parts _ _ (sym (ap (λ c. is_within c p) here) ∙ y) in
         let within : IsWithin t p = (ltb-true _ _ w.0, ltb-true _ _ w.1) in
         cond-true {A = Option Place} _ (outlet_by o.cutting flows o.listed p) None y
         ∙ outlets.no_outlets p within out)

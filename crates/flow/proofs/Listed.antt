@@ -64,7 +64,7 @@ module _ (o : Outlets) (flows : List Flow) (n : EndNumbers) (b : Bounds) where
       IsNumberedPlace o flows n b q
   exit_placed exit None q at some is = absurd (none-some exit (sym some))
   exit_placed exit (Some e) q at some is =
-      subst (λ (p : Place). IsNumberedPlace o flows n b p) (sym (place_in-index_in b e is.inside)
+      subst (λ p. IsNumberedPlace o flows n b p) (sym (place_in-index_in b e is.inside)
       ∙ ap (place_in b) (sym (same_Some exit (index_in b e) some)) ∙ sym at) is
 
   pub exit_number_own : {i exit : ℕ} (x : Option Place) → Some exit ≡ option_map (index_in b) x →
@@ -74,9 +74,9 @@ module _ (o : Outlets) (flows : List Flow) (n : EndNumbers) (b : Bounds) where
   exit_number_own {exit = exit} None some own is = absurd (none-some exit (sym some))
   exit_number_own {i} {exit} (Some e) some own is =
       let at : exit ≡ index_in b e = same_Some exit (index_in b e) some in
-      ap (λ (p : Place). number_at o.cutting.cols n (listed_outlet o flows p)) (ap (place_in b) at
+      ap (λ p. number_at o.cutting.cols n (listed_outlet o flows p)) (ap (place_in b) at
       ∙ place_in-index_in b e is.inside)
-      ∙ sym (cond-true {A = ℕ} _ (number_at o.cutting.cols n (listed_outlet o flows e)) 0
+      ∙ sym (cond-true _ (number_at o.cutting.cols n (listed_outlet o flows e)) 0
       (eq-eqb (index_in b e) i (sym at ∙ own)))
 
   pub exit_number_none : (i : ℕ) (x : Option Place) → None ≡ option_map (index_in b) x →
@@ -88,7 +88,7 @@ module _ (o : Outlets) (flows : List Flow) (n : EndNumbers) (b : Bounds) where
       (exit ≡ i → ⊥) → 0 ≡ exit_number_by o flows n b i x
   exit_number_other i exit None some other = refl
   exit_number_other i exit (Some e) some other =
-      sym (cond-false {A = ℕ} _ (number_at o.cutting.cols n (listed_outlet o flows e)) 0
+      sym (cond-false _ (number_at o.cutting.cols n (listed_outlet o flows e)) 0
       (ne_eqb (index_in b e) i (λ own. other (same_Some exit (index_in b e) some ∙ own))))
 
 pub place_in_row : (b : Bounds) (r k : ℕ) → k < b.cols →
@@ -115,7 +115,7 @@ row_code v b r k e a below inside =
     row_has v None b r k e inside ∙ ap (λ n. get_or v.cells n None) sum
     ∙ sym (entry-inside v.cutting.cols v.cutting.rows v.cells (make_place (b.top + r) (b.left + k))
     (omega arith) (omega arith))
-    ∙ ap (λ (p : Place). code_at (directed_by v) p) (sym (place_in_row b r k inside))
+    ∙ ap (code_at (directed_by v)) (sym (place_in_row b r k inside))
 
 pub row_added : {v : View (Option ℕ)} {b : Bounds} {r : ℕ} {cells row new : List (Option ℕ)} →
     b ≡ bounds_of v.cutting v.tile → AreBounds v.cutting b → r < b.rows →

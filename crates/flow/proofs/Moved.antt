@@ -25,9 +25,9 @@ use Rattle.flow.proofs.Listed.{place_in_row}
 toward_touches : (p q : Place) (code : ℕ) → place_toward code p ≡ Some q → Touches p q
 toward_touches p q code e = elim (cases_option (way_of code)) [
   | inl none ↦ absurd (none-some q
-      (sym (ap (λ (o : Option ℕ). option_and_then (λ way. place_on way p) o) none) ∙ e))
+      (sym (ap (option_and_then (λ way. place_on way p)) none) ∙ e))
   | inr way ↦ (let at : get_or (ways_from p) way.0 None ≡ Some q =
-      sym (ap (λ (o : Option ℕ). option_and_then (λ way. place_on way p) o) way.1) ∙ e in
+      sym (ap (option_and_then (λ way. place_on way p)) way.1) ∙ e in
       elim (cases_lt way.0 8) [
         | inl below ↦ (Touches-from_ways p q
             (way.0, below, get_or_default (ways_from p) way.0 (Some q) None below ∙ at)).0
@@ -60,15 +60,15 @@ few_cells b rows cols =
 
 module _ (b : Bounds) (i : ℕ) {p : Place} (at : p ≡ place_in b i) (code : Option ℕ) {q : Place}
     (is : q ≡ led p code) where
-  linked : link_by b i code ≡ cond {A = ℕ} (is_in_bounds b q) (index_in b q) i
-  linked = sym (ap (λ (z : Place). cond {A = ℕ} (is_in_bounds b z) (index_in b z) i)
-      (is ∙ ap (λ (z : Place). led z code) at))
+  linked : link_by b i code ≡ cond (is_in_bounds b q) (index_in b q) i
+  linked = sym (ap (λ z. cond (is_in_bounds b z) (index_in b z) i)
+      (is ∙ ap (λ z. led z code) at))
 
   link_inside : IsInBounds b q → link_by b i code ≡ index_in b q
   link_inside inside = linked ∙ cond-true _ _ _ (in_bounds_from b q inside)
 
   pub stay_outside : is_in_bounds b q ≡ false → IsMove b i code 5
-  stay_outside out = omega (arith, linked ∙ cond-false {A = ℕ} _ (index_in b q) i out)
+  stay_outside out = omega (arith, linked ∙ cond-false _ (index_in b q) i out)
 
   pub stay_at : q ≡ p → IsMove b i code 5
   stay_at same = elim (cases_Bool (is_in_bounds b q)) [
@@ -100,7 +100,7 @@ module _ (b : Bounds) (i : ℕ) {p : Place} (at : p ≡ place_in b i) (code : Op
       let rows : q.row - b.top + 1 ≡ p.row - b.top + (q.row + 1 - p.row) = omega (arith, down_few) in
       omega (
         arith,
-        ap (λ (n : ℕ). n * b.cols) down,
+        ap (λ n. n * b.cols) down,
         ap (λ (n : ℕ). n % 4) parts ∙ mod-mul-add (q.row + 1 - p.row) 4 (q.col + 1 - p.col)
             (omega (arith, right_few)),
         right_few,
@@ -110,7 +110,7 @@ module _ (b : Bounds) (i : ℕ) {p : Place} (at : p ≡ place_in b i) (code : Op
       )
     where
       strides : (x y d c : ℕ) → y + 1 ≡ x + d → y * c + c ≡ x * c + d * c
-      strides x y d c e = omega (arith, ap (λ (n : ℕ). n * c) e)
+      strides x y d c e = omega (arith, ap (λ n. n * c) e)
 
 -- The moves of the eight directions.
 abbrev pub way_moves : List ℕ
@@ -132,7 +132,7 @@ module _ {b : Bounds} {r k : ℕ} (interior : IsInteriorAt b r k) where
 
   at_here : r * b.cols + k ≡ (b.top + r - b.top) * b.cols + (b.left + k - b.left)
   at_here = let row : b.top + r - b.top ≡ r = omega arith in
-      omega (arith, ap (λ (n : ℕ). n * b.cols) row)
+      omega (arith, ap (λ n. n * b.cols) row)
 
   past_first : b.cols + 1 ≤ r * b.cols + k
   past_first =
@@ -142,7 +142,7 @@ module _ {b : Bounds} {r k : ℕ} (interior : IsInteriorAt b r k) where
   pub stays_interior : (code : Option ℕ) → option_and_then (λ c. place_toward c here) code ≡ None →
       IsMove b (r * b.cols + k) code 5
   stays_interior code none = stay_at b (r * b.cols + k) here_is code refl
-      (ap (λ (o : Option Place). unwrap_or o here) none)
+      (ap (λ o. unwrap_or o here) none)
 
   pub goes_on_way : (n way : ℕ) → way_of n ≡ Some way → way < 8 →
       IsMove b (r * b.cols + k) (Some n) (get_or way_moves way 0)
@@ -154,7 +154,7 @@ module _ {b : Bounds} {r k : ℕ} (interior : IsInteriorAt b r k) where
       ∙ ap (λ (n : ℕ). n + (b.cols + 1)) (sym q.1.index
       ∙ sym (link_inside b (r * b.cols + k) here_is (Some n)
       (sym (ap (λ (o : Option ℕ). unwrap_or (option_and_then (λ way. place_on way here) o) here) is
-      ∙ ap (λ (o : Option Place). unwrap_or o here) q.1.on)) (
+      ∙ ap (λ o. unwrap_or o here) q.1.on)) (
         omega (arith, interior.first_row, q.1.touches.row_up),
         omega (arith, interior.last_row, q.1.touches.row_down),
         omega (arith, interior.first_col, q.1.touches.col_left),
@@ -168,10 +168,10 @@ link_below b i code h =
     elim (cases_Bool (is_in_bounds b (led (place_in b i) code))) [
       | inl y ↦ omega (
         arith,
-        cond-true {A = ℕ} _ (index_in b q) i y,
+        cond-true _ (index_in b q) i y,
         index_in_below b q (in_bounds_parts b q y),
       )
-      | inr n ↦ omega (arith, cond-false {A = ℕ} _ (index_in b q) i n, h)
+      | inr n ↦ omega (arith, cond-false _ (index_in b q) i n, h)
     ]
 
 module _ {b : Bounds} {cells : List (Option ℕ)} {moves : List ℕ} (small : EndsInLargestGrid b)
@@ -202,9 +202,10 @@ module _ {b : Bounds} {cells : List (Option ℕ)} {moves : List ℕ} (small : En
         s.each i (omega (arith, below, s.size)),
       )))
 
-pub moves_below : (cols : ℕ) (moves links : List ℕ) (i : ℕ) → moved_by cols moves ≡ links → i < length links →
+pub moves_below : (cols : ℕ) (moves : List ℕ) {links : List ℕ} (i : ℕ) → moved_by cols moves ≡ links → i < length
+    links →
     i < length moves
-moves_below cols moves links i seen h = omega (
+moves_below cols moves i seen h = omega (
   arith,
   ap length seen,
   length-map-range_with_len (λ i. reach cols i (get_or moves i 0) - (cols + 1)) 0 (length moves),
@@ -216,7 +217,7 @@ pub next_read : {cols : ℕ} {moves links : List ℕ} (i : ℕ) {move : ℕ} →
     (cols + 1 ≤ reach cols i move) × (reach cols i move < 2 ^ 32)
     × (reach cols i move - (cols + 1) ≡ get_or links i 0)
 next_read {cols} {moves} {links} i {move} fit seen h read =
-    let below = moves_below cols moves links i seen h in
+    let below = moves_below cols moves i seen h in
     let at = ap (reach cols i) (read ∙ get_or_default moves i move 0 below) in (
       omega (arith, fit.low i below, at),
       omega (arith, fit.high i below, at),

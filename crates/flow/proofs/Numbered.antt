@@ -21,7 +21,6 @@ use Rattle.flow.specs.Whole.{is_outlet_code, make_directed, directed_on}
 use Rattle.flow.specs.RimGraph.{AreFlowsOf, AreOutlets, Outlets, listed_outlet}
 use Rattle.flow.specs.Numbering.{EndNumbers, end_number, outlet_numbers, IsNumbering, IsReady, AreReady, IsNumberedPlace, number_at, exit_number_by, exit_numbers_by, cell_number, cell_numbers_by}
 use Rattle.flow.proofs.Coded.{IsCoded, cases_coded, coded_along, coded_inside}
-use Rattle.flow.proofs.Piece.{match_none, match_some}
 use Rattle.flow.proofs.RimFlows.{within_of, last_same, exit_in_tile, exit_of_exit}
 
 -- With at most 2^24 codes, each outlet number is below `uncounted`, the stored count of NODATA.
@@ -60,9 +59,9 @@ module _ {d : Directed} {t : Cutting} {flows : List Flow} {o : Outlets} {n : End
       coded_inside (coded_along s.are_flows.ends is (d.cols * d.rows)) in
       omega (arith, index_below d.cols d.rows (last_of d p) w.0 w.1, s.size)
 
-  numbered_last : (e : Place) → IsExitCell d t e → IsCoded d e →
+  numbered_last : {e : Place} → IsExitCell d t e → IsCoded d e →
       IfSome (listed_outlet o flows e) (λ q. index_of o.cutting.cols q < n.cells)
-  numbered_last e cell is =
+  numbered_last {e} cell is =
       let below : index_of o.cutting.cols (last_of d e) < n.cells =
       omega (arith, last_below e is, ap (λ cols. index_of cols (last_of d e)) same_cols) in
       rw (s.are_outlets.outlets e cell) below
@@ -96,10 +95,10 @@ module _ {d : Directed} {t : Cutting} {flows : List Flow} {o : Outlets} {n : End
       pub coded : IsCoded d exit
       pub inside : IsInTile t tile exit
 
-    has_exit : (p : Place) → IsInTile t tile p → IsCoded d p → Has p
-    has_exit p i is =
+    has_exit : {p : Place} → IsInTile t tile p → IsCoded d p → Has p
+    has_exit {p} i is =
         let m = MatchOption-at_some _ _ is.code is.is (right.each p i) in
-        let x = exit_in_tile s.are_flows p m.0 is m.2 in
+        let x = exit_in_tile s.are_flows m.0 is m.2 in
         record {
           exit = m.0;
           listed = exit_entry p i ∙ m.1;
@@ -118,11 +117,11 @@ module _ {d : Directed} {t : Cutting} {flows : List Flow} {o : Outlets} {n : End
     exit_is_numbered p i = elim (cases_coded d p) [
       | inl none ↦ rw (no_exit p i none) tt
       | inr is ↦
-          let h = has_exit p i is in
+          let h = has_exit i is in
           rw h.listed (record {
             inside = in_flow h.exit h.inside;
-            within = subst (λ (c : Cutting). IsWithin c h.exit) (sym s.same_cutting) h.inside.0;
-            numbered = numbered_last h.exit (h.leads).4 h.coded;
+            within = subst (λ c. IsWithin c h.exit) (sym s.same_cutting) h.inside.0;
+            numbered = numbered_last (h.leads).4 h.coded;
           })
     ]
 
@@ -134,7 +133,7 @@ module _ {d : Directed} {t : Cutting} {flows : List Flow} {o : Outlets} {n : End
         | inl below ↦
             let tile_below : tile < tile_count t =
             omega (arith, slice_get_within flows tile f there, s.are_flows.of_tiles.count) in
-            let inside = subst (λ (b : Bounds). IsInTile t tile (place_in b i))
+            let inside = subst (λ b. IsInTile t tile (place_in b i))
             (sym right.bounds) (place_in_tile t tile i s.are_flows.cutting tile_below
             (omega (arith, below, cell_size))) in
             rw (index_in-place_in f.bounds i) at (exit_is_numbered (place_in f.bounds i) inside)
@@ -142,21 +141,21 @@ module _ {d : Directed} {t : Cutting} {flows : List Flow} {o : Outlets} {n : End
     }
 
     -- `exit_numbers_by` has at p's exit the number of the cell where the flow path of p ends.
-    exit_number_is : (p : Place) → IsCoded d p → (h : Has p) →
+    exit_number_is : {p : Place} → IsCoded d p → (h : Has p) →
         get_or (exit_numbers_by o flows n f) (index_in f.bounds h.exit) 0 ≡ end_number d n p
-    exit_number_is p is h =
-        let own = has_exit h.exit h.inside h.coded in
+    exit_number_is is h =
+        let own = has_exit h.inside h.coded in
         let listed : get_or f.exits (index_in f.bounds h.exit) None ≡ Some h.exit = own.listed
         ∙ ap Some (exit_of_exit s.are_flows h.exit own.exit (h.leads).4 own.leads) in
         get_or-map-range_with_len (λ i. exit_number_by o flows n f.bounds i
         (get_or f.exits i None)) 0 (length f.exits) (index_in f.bounds h.exit)
         (index_in f.bounds h.exit) 0 (index_few h.exit h.inside) (omega arith)
         ∙ ap (exit_number_by o flows n f.bounds (index_in f.bounds h.exit)) listed
-        ∙ cond-true {A = ℕ} _ (number_at o.cutting.cols n (listed_outlet o flows h.exit)) 0
+        ∙ cond-true _ (number_at o.cutting.cols n (listed_outlet o flows h.exit)) 0
         (eq-eqb _ _ refl)
         ∙ ap (number_at o.cutting.cols n) (s.are_outlets.outlets h.exit (h.leads).4)
         ∙ number_of_last h.exit
-        ∙ ap (λ (q : Place). n.number (index_of d.cols q))
+        ∙ ap (λ q. n.number (index_of d.cols q))
         (last_same s.are_flows (h.leads).0 is (h.leads).3)
 
     -- The value at each place of the tile is the number of its path's end, `None` at NODATA.
@@ -167,19 +166,19 @@ module _ {d : Directed} {t : Cutting} {flows : List Flow} {o : Outlets} {n : End
         let entry : tile_entry t tile values p ≡ cell_number f.bounds (exit_numbers_by o flows n f)
         (get_or f.exits (index_in f.bounds p) None) =
         tile_entry-in t tile values p i
-        ∙ ap (λ (b : Bounds). get_or values (index_in b p) None) (sym right.bounds)
-        ∙ ap (λ (l : List (Option ℕ)). get_or l (index_in f.bounds p) None) made
+        ∙ ap (λ b. get_or values (index_in b p) None) (sym right.bounds)
+        ∙ ap (λ l. get_or l (index_in f.bounds p) None) made
         ∙ get_or-map-range_with_len (λ i. cell_number f.bounds (exit_numbers_by o flows n f)
         (get_or f.exits i None)) 0 (length f.exits) (index_in f.bounds p) (index_in f.bounds p) None
         (index_few p i) (omega arith) in
         elim (cases_coded d p) [
-          | inl none ↦ match_none (code_at d p) _ _ none (entry
+          | inl none ↦ rw none (entry
               ∙ ap (cell_number f.bounds (exit_numbers_by o flows n f)) (no_exit p i none))
           | inr is ↦
-              let h = has_exit p i is in
-              match_some (code_at d p) _ _ is.code is.is (entry
+              let h = has_exit i is in
+              rw is.is (entry
               ∙ ap (cell_number f.bounds (exit_numbers_by o flows n f)) h.listed
-              ∙ ap (stored_count uncounted) (exit_number_is p is h)
+              ∙ ap (stored_count uncounted) (exit_number_is is h)
               ∙ stored_count_some uncounted (end_number d n p) (number_few p is))
         ]
 

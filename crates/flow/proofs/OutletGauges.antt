@@ -18,7 +18,7 @@ use Rattle.flow.specs.Counts.{basin}
 use Rattle.flow.specs.Catchments.{catchment, gauge_number, outlets}
 use Rattle.tile_jobs.specs.Sums.{sum_below}
 use Rattle.flow.specs.Whole.{is_outlet_code}
-use Rattle.flow.proofs.CutPaths.{cases_first, position_none}
+use Rattle.flow.proofs.CutPaths.{cases_first, position_none, or_zero}
 use Rattle.flow.proofs.Coded.{IsCoded, outlet_stays, follow_stays}
 use Rattle.flow.proofs.DrainedCells.{cell}
 use Rattle.flow.proofs.Reaching.{IsEnding, cell_back, cell_below, reached_early}
@@ -53,7 +53,7 @@ module _ (cols rows : ℕ) where
       ap (λ k. map (λ (c : ℕ). make_place r c) (range_with_len 0 k)) (sym (add-one n))
       ∙ map-range_with_len_more (λ (c : ℕ). make_place r c) 0 n n (omega arith)
       ∙ ap (λ l. l ++ make_place r n ∷ []) (row_places r n (omega arith))
-      ∙ ap (λ (q : Place). map at (range_with_len (r * cols) n) ++ q ∷ []) here
+      ∙ ap (λ q. map at (range_with_len (r * cols) n) ++ q ∷ []) here
       ∙ sym (map-range_with_len_more at (r * cols) n (r * cols + n) (omega arith))
       ∙ ap (λ k. map at (range_with_len (r * cols) k)) (add-one n)
 
@@ -194,7 +194,7 @@ module _ {d : Directed} (s : IsEnding d) (size : length d.codes ≡ d.cols * d.r
   outlet_number q is =
       let coded = coded_outlet q is in
       let j = index_in (grid_of d) q in
-      let back = cell_back s q coded in
+      let back = cell_back s coded in
       let below = cell_below s q coded in
       let index : index_of d.cols q ≡ j = sym (ap (index_of d.cols) back) ∙ index_of_cell j in
       let r = filtered (cell d) (is_place q) is_outlet j (is_place_from q (cell d j) (sym back))
@@ -202,7 +202,7 @@ module _ {d : Directed} (s : IsEnding d) (size : length d.codes ≡ d.cols * d.r
       (omega arith) (omega (arith, below)) in
       let number : gauge_number (outlets d) q ≡ 1 + r.0 =
       ap (λ l. unwrap_or (position_from (is_place q) 1 (filter is_outlet l)) 0)
-      (places_at d.cols d.rows) ∙ ap (λ (o : Option ℕ). unwrap_or o 0) r.1 in
+      (places_at d.cols d.rows) ∙ ap or_zero r.1 in
       omega (
         arith,
         number,
@@ -217,7 +217,7 @@ module _ {d : Directed} (s : IsEnding d) (size : length d.codes ≡ d.cols * d.r
     | inr isnt ↦ absurd (omega (
       arith,
       outlet_number q is,
-      ap (λ (o : Option ℕ). unwrap_or o 0) (position_none (is_place q) 1 (outlets d) isnt),
+      ap or_zero (position_none (is_place q) 1 (outlets d) isnt),
     ))
   ]
 

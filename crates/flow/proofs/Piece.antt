@@ -31,9 +31,9 @@ bounds_end_in_grid h a = record {
   few_cols = omega (arith, h.few_cols, a.cols_inside);
 }
 
-pub links_from : (d : Directed) (b : Bounds) (cells : List (Option ℕ)) → AreTileCodes d b cells →
+pub links_from : {d : Directed} {b : Bounds} {cells : List (Option ℕ)} → AreTileCodes d b cells →
     AreTileLinks d b (links_by b cells)
-links_from d b cells codes = record {
+links_from {b = b} {cells = cells} codes = record {
   size = length-map-range_with_len (λ i. link_by b i (get_or cells i None)) 0 (b.rows * b.cols);
   each = λ i h. get_or-map-range_with_len (λ i. link_by b i (get_or cells i None)) 0
       (b.rows * b.cols) i i 0 h (omega arith) ∙ ap (link_by b i) (codes.each i h);
@@ -65,10 +65,10 @@ module _ {b : Bounds} {cells : List (Option ℕ)} {links rim_ends : List ℕ}
   end_listed i h = sym ((ends_are links).each i (omega (arith, h, as_many_links)))
 
   -- Ends of paths along the links of a flow's codes are ends of paths along its list of links.
-  pub ends_seen : (f : Flow) → flow_by b cells (ends_by links) ≡ f → (ends : List ℕ) →
+  pub ends_seen : {f : Flow} → flow_by b cells (ends_by links) ≡ f → {ends : List ℕ} →
       AreEnds (links_by f.bounds f.codes) ends → AreEnds links ends
-  ends_seen f seen ends are =
-      subst (λ (l : List ℕ). AreEnds l ends) (sym s.linked)
+  ends_seen seen {ends = ends} are =
+      subst (λ l. AreEnds l ends) (sym s.linked)
       (subst (λ (z : Flow). AreEnds (links_by z.bounds z.codes) ends) (sym seen) are)
 
 -- The codes (`cells`), links and weights of the tile that a view shows. In the view's map of
@@ -98,19 +98,11 @@ lists_made {v} {b} {cells} ends is inside lawful codes same made = record {
   weighed = refl;
 }
 
-pub match_none : {X : Type 0} (o : Option X) (P : Type 0) (Q : X → Type 0) → o ≡ None → P →
-    MatchOption o P Q
-match_none {X} o P Q e p = rw e p
-
-pub match_some : {X : Type 0} (o : Option X) (P : Type 0) (Q : X → Type 0) (x : X) → o ≡ Some x →
-    Q x → MatchOption o P Q
-match_some {X} o P Q x e q = rw e q
-
 -- An entry made by `where_data` has its value at a data cell, and is `None` at NODATA.
-pub match_data : {X : Type 0} (o : Option ℕ) (x y : X) (entry : Option X) → entry ≡ where_data o x →
+pub match_data : {X : Type 0} (o : Option ℕ) (x y : X) {entry : Option X} → entry ≡ where_data o x →
     ((code : ℕ) → o ≡ Some code → x ≡ y) → MatchOption o (entry ≡ None) (λ _. entry ≡ Some y)
-match_data None x y entry e same = e
-match_data (Some code) x y entry e same = e ∙ ap Some (same code refl)
+match_data None x y e same = e
+match_data (Some code) x y e same = e ∙ ap Some (same code refl)
 
 module _ {v : View (Option ℕ)} {b : Bounds} {cells : List (Option ℕ)} {links weights : List ℕ}
     (s : AreLists v b cells links weights) where
@@ -122,7 +114,7 @@ module _ {v : View (Option ℕ)} {b : Bounds} {cells : List (Option ℕ)} {links
     ends = s.ends;
     inside = s.inside;
     places = places_from_value v.cutting v.tile b s.lawful.cutting s.lawful.tile s.bounds;
-    made = rw s.made (links_from (directed_by v) b cells s.codes);
+    made = rw s.made (links_from s.codes);
   }
 
   weighs : AreTileWeights (directed_by v) b weights
@@ -141,7 +133,7 @@ module _ {v : View (Option ℕ)} {b : Bounds} {cells : List (Option ℕ)} {links
   total_drained_inside : (i : ℕ) → i < length links →
       total links weights i ≡ all_drained_inside (directed_by v) v.cutting (place_in b i)
   total_drained_inside = total_is streams
-      (own_totals ending piece weights weighs)
+      (own_totals ending piece weighs)
 
   pub fits : (i : ℕ) → i < length links → total links weights i < 2 ^ 32
   fits i h = omega (
@@ -192,9 +184,9 @@ module _ {v : View (Option ℕ)} {b : Bounds} {cells : List (Option ℕ)} {links
           ∙ sym (ap (λ (z : Bounds). z.rows * z.cols) same);
       each = λ p i. (let h = (piece.places p).0 i in
           let entry : through_in f p ≡ entry_in b (counts_by cells (slice_index totals)) p =
-          ap (λ (z : Bounds). entry_in z f.through p) same
-          ∙ ap (λ (l : List (Option ℕ)). entry_in b l p) through in
-          match_data (code_at (directed_by v) p) _ _ _
+          ap (λ z. entry_in z f.through p) same
+          ∙ ap (λ l. entry_in b l p) through in
+          match_data (code_at (directed_by v) p) _ _
           (entry ∙ entry_in-inside b (counts_by cells (slice_index totals)) p h
           ∙ count_entry (slice_index totals) p h)
           (λ code is. count_of p h (record { code = code; is = is })));
@@ -241,9 +233,9 @@ module _ {v : View (Option ℕ)} {b : Bounds} {cells : List (Option ℕ)} {links
           λ p i. (let h = (piece.places p).0 i in entry_in-inside b cells p h ∙ code_is p h);
       each = λ p i. (let h = (piece.places p).0 i in
           elim (cases_coded (directed_by v) p) [
-            | inl none ↦ match_none (code_at (directed_by v) p) _ _ none (exit_entry p h
+            | inl none ↦ rw none (exit_entry p h
                 ∙ ap (λ o. where_data o (place_in b (get_or ends (index_in b p) 0))) none)
-            | inr is ↦ match_some (code_at (directed_by v) p) _ _ is.code is.is (
+            | inr is ↦ rw is.is (
               place_in b (get_or ends (index_in b p) 0),
               exit_entry p h
                   ∙ ap (λ o. where_data o (place_in b (get_or ends (index_in b p) 0))) is.is,
@@ -252,9 +244,9 @@ module _ {v : View (Option ℕ)} {b : Bounds} {cells : List (Option ℕ)} {links
           ]);
     }
 
-  pub lists_are : (rim_ends : List ℕ) → rim_ends ≡ rim_ends_by b links →
+  pub lists_are : {rim_ends : List ℕ} → rim_ends ≡ rim_ends_by b links →
       AreFlowLists b cells links rim_ends
-  lists_are rim_ends rim = record {
+  lists_are rim = record {
     linked = s.made;
     lawful = flow_lawful (ends_are links);
     streams = streams;
@@ -269,7 +261,7 @@ codes_from {t = t} {tile = tile} {f = f} cutting below right = record {
       let inside = place_in_tile t tile i cutting below h in
       let entry : entry_in f.bounds f.codes (place_in (bounds_of t tile) i)
       ≡ get_or f.codes i None =
-      ap (λ (b : Bounds). entry_in b f.codes (place_in (bounds_of t tile) i)) right.bounds
+      ap (λ b. entry_in b f.codes (place_in (bounds_of t tile) i)) right.bounds
       ∙ cond-true {A = Option ℕ} _ _ _ (in_bounds_from (bounds_of t tile) (place_in
       (bounds_of t tile) i) (in_bounds t tile (place_in (bounds_of t tile) i) cutting inside))
       ∙ ap (λ n. get_or f.codes n None) (index_in-place_in (bounds_of t tile) i) in
@@ -288,7 +280,7 @@ lists_seen {v} {f} right ends lawful = lists_made ends right.bounds
 pub exits_kept : {d : Directed} {t : Cutting} {tile : ℕ} {f : Flow} (through : List (Option ℕ)) →
     IsTileExits d t tile f →
     IsTileExits d t tile
-    (record { bounds = f.bounds; codes = f.codes; through = through; exits = f.exits })
+    (record f { through = through })
 exits_kept through right = record {
   bounds = right.bounds;
   lawful = record {

@@ -98,9 +98,9 @@ pub mapped_next : {X : Type 0} (f : ℕ → X) (n : ℕ) →
     map f (range_with_len 0 (n + 1)) ≡ map f (range_with_len 0 n) ++ f n ∷ []
 mapped_next f n = map-range_with_len_more f 0 n n (omega arith)
 
-pub mapped_pushed : {X : Type 0} (f : ℕ → X) (n : ℕ) (xs ys : List X) (x : X) → xs ≡ map f
+pub mapped_pushed : {X : Type 0} (f : ℕ → X) (n : ℕ) {xs ys : List X} {x : X} → xs ≡ map f
     (range_with_len 0 n) → x ≡ f n → ys ≡ xs ++ x ∷ [] → ys ≡ map f (range_with_len 0 (n + 1))
-mapped_pushed f n xs ys x made here pushed = pushed ∙ ap (λ l. l ++ x ∷ []) made
+mapped_pushed f n {x = x} made here pushed = pushed ∙ ap (λ l. l ++ x ∷ []) made
     ∙ ap (λ y. map f (range_with_len 0 n) ++ y ∷ []) here ∙ sym (mapped_next f n)
 
 pub mapped_all : {X : Type 0} (f : ℕ → X) {n m : ℕ} {xs : List X} →

@@ -56,17 +56,17 @@ module _ {d : Directed} (s : IsEnding d) where
       (follow_more d c a (suc (b - a - 1)) ∙ ap (follow d c) far ∙ sym same)
       (outlet_stays d (last_of d (follow d c a)) (s.ends (follow d c a) coded.code coded.is))
 
-  pub in_grid : (p : Place) → IsCoded d p → IsInBounds (grid_of d) p
-  in_grid p is = let i = coded_inside is in
+  pub in_grid : {p : Place} → IsCoded d p → IsInBounds (grid_of d) p
+  in_grid is = let i = coded_inside is in
       (omega arith, omega (arith, i.0), omega arith, omega (arith, i.1))
 
   pub cell_below : (p : Place) → IsCoded d p →
       index_in (grid_of d) p < d.rows * d.cols
-  cell_below p is = index_in_below (grid_of d) p (in_grid p is)
+  cell_below p is = index_in_below (grid_of d) p (in_grid is)
 
-  pub cell_back : (p : Place) → IsCoded d p →
+  pub cell_back : {p : Place} → IsCoded d p →
       place_in (grid_of d) (index_in (grid_of d) p) ≡ p
-  cell_back p is = place_in-index_in (grid_of d) p (in_grid p is)
+  cell_back {p} is = place_in-index_in (grid_of d) p (in_grid is)
 
   path_stop : (c : Place) → IsCoded d c → (k : ℕ) × (k < moves d) × StopsAt d c k
   path_stop c is =
@@ -76,7 +76,7 @@ module _ {d : Directed} (s : IsEnding d) where
       follow d c a ≡ follow d c b =
       λ a b. index_injective d.cols (follow d c a) (follow d c b) (inside a).1 (inside b).1 in
       let r = early_stop (λ k. index_of d.cols (follow d c k)) (λ a b e.
-      ap (λ (p : Place). index_of d.cols (next d p)) (same a b e)) (moves d)
+      ap (λ p. index_of d.cols (next d p)) (same a b e)) (moves d)
       (λ k. index_below d.cols d.rows (follow d c k) (inside k).0 (inside k).1) (moves d)
       (ap (index_of d.cols) (outlet_stays d (last_of d c) (s.ends c is.code is.is))) in
       (r.0, r.1, same (suc r.0) r.0 r.2)
@@ -126,14 +126,14 @@ module _ {d : Directed} (s : IsEnding d) where
     pub stays_or_enters : ((p : Place) → In p ⊎ (In p → ⊥)) → (q : Place) (k : ℕ) →
         In (follow d q k) → ((l : ℕ) → l ≤ k → In (follow d q l)) ⊎ EntersRegion In q k
     stays_or_enters cases q zero here =
-        inl (λ l le. (let z : 0 ≡ l = omega arith in subst (λ (n : ℕ). In (follow d q n)) z here))
+        inl (λ l le. (let z : 0 ≡ l = omega arith in subst (λ n. In (follow d q n)) z here))
     stays_or_enters cases q (suc k) here = elim (cases (follow d q k)) [
       | inr out ↦ inr (record {
         from = k;
         before = omega arith;
         outside = out;
         inside = λ l lt le.
-            (let z : suc k ≡ l = omega arith in subst (λ (n : ℕ). In (follow d q n)) z here);
+            (let z : suc k ≡ l = omega arith in subst (λ n. In (follow d q n)) z here);
       })
       | inl y ↦ elim (stays_or_enters cases q k y) [
         | inl way ↦ inl (λ l le. last l le (λ less. way l less))

@@ -34,16 +34,16 @@ added b old q amount size inside p h =
     ] in
     added_at old (index_in b q) amount (index_in b p)
     (omega (arith, index_in_below b q inside, size))
-    ∙ ap (λ x. get_or old (index_in b p) 0 + cond {A = ℕ} x amount 0) same
+    ∙ ap (λ x. get_or old (index_in b p) 0 + cond x amount 0) same
 
 pub own_adds : (q : Place) (amount : ℕ) → adds_at (Some q) amount q ≡ amount
-own_adds q amount = cond-true {A = ℕ} _ amount 0 (is_place_from q q refl)
+own_adds q amount = cond-true _ amount 0 (is_place_from q q refl)
 
 adds_off : (o : Option Place) (amount : ℕ) (p : Place) → ((q : Place) → o ≡ Some q → q ≢ p) →
     adds_at o amount p ≡ 0
 adds_off None amount p other = refl
 adds_off (Some q) amount p other =
-    cond-false {A = ℕ} _ amount 0 (false_from_ne_true _ (λ y. other q refl (place_is _ _ y)))
+    cond-false _ amount 0 (false_from_ne_true _ (λ y. other q refl (place_is _ _ y)))
 
 module _ {t : Cutting} (h : IsCutting t) (listed : List ℕ) where
   -- No side number but that of p adds to the weight of p.
@@ -69,14 +69,14 @@ module _ {t : Cutting} (h : IsCutting t) (listed : List ℕ) where
       ∙ ap (λ n. side_place (bounds_of t 0) (own_bounds t p) n)
       (mod-mul-add (tile_of_place t p) (stride (bounds_of t 0)) side below) in
       elim (cases_Bool (is_place (rim_place t (rim_number t p)) p)) [
-        | inl y ↦ ap (λ (o : Option Place). adds_at o amount p) (cell_at (bounds_of t 0)
+        | inl y ↦ ap (λ o. adds_at o amount p) (cell_at (bounds_of t 0)
             (own_bounds t p) p i (sym place ∙ place_is _ _ y))
-            ∙ own_adds p amount ∙ sym (cond-true {A = ℕ} _ amount 0 y)
+            ∙ own_adds p amount ∙ sym (cond-true _ amount 0 y)
         | inr f ↦
             adds_off (side_cell (bounds_of t 0) (own_bounds t p) side) amount p
             (λ q is e. false≢true (sym f ∙ is_place_from _ _ (place
             ∙ (cell_from (bounds_of t 0) (own_bounds t p) side q is).place ∙ e)))
-            ∙ sym (cond-false {A = ℕ} _ amount 0 f)
+            ∙ sym (cond-false _ amount 0 f)
       ]
 
   all_adds : (p : Place) → IsWithin t p → sum_below (λ k. adds t listed (tile_of_place t p) k p)
@@ -120,7 +120,7 @@ module _ {t : Cutting} (h : IsCutting t) (listed : List ℕ) (tile : ℕ) (below
       amount ≡ get_or listed (tile * stride (bounds_of t 0) + side) 0 → (p : Place) →
       adds_at cell amount p ≡ adds t listed tile side p
   one_added e side {amount = amount} is much p =
-      ap (λ (o : Option Place). adds_at o amount p) (is
+      ap (λ o. adds_at o amount p) (is
       ∙ ap (λ (z : Bounds). side_cell (bounds_of t 0) z side) e)
       ∙ ap (λ n. adds_at (side_cell (bounds_of t 0) (bounds_of t tile) side) n p) much
 

@@ -40,7 +40,7 @@ module _ (l b : Bounds) where
       side_cell l b (side_number l b p) ≡ Some p
   cell_at p i back =
       cond-true {A = Option Place} _ _ None
-      (ap (λ (q : Place). is_in_bounds b q && eqb (side_number l b q) (side_number l b p)) back
+      (ap (λ q. is_in_bounds b q && eqb (side_number l b q) (side_number l b p)) back
       ∙ and_from _ _ (in_bounds_from b p i) (eq-eqb _ _ refl))
       ∙ ap Some back
 

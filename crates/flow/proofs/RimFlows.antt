@@ -48,16 +48,12 @@ read_of_tile read same t flows p tile exits x at of value =
 pub outlet_listed : (t : Cutting) (flows : List Flow) (listed : List (Option Place)) (p : Place) →
     is_outlet_code (code_in t flows p) ≡ false → is_place (rim_place t (rim_number t p)) p ≡ true →
     outlet_by t flows listed p ≡ get_or listed (rim_number t p) None
-outlet_listed t flows listed p f y = cond-false {A =
-    Option Place} _ (Some p) (cond {A = Option Place} (is_place (rim_place t (rim_number t p)) p)
-    (get_or listed (rim_number t p) None) None) f ∙ cond-true {A = Option Place} _ _ _ y
+outlet_listed t flows listed p f y = rw (f, y)
 
 pub outlet_unlisted : (t : Cutting) (flows : List Flow) (listed : List (Option Place)) (p : Place) →
     is_outlet_code (code_in t flows p) ≡ false → is_place (rim_place t (rim_number t p)) p ≡ false →
     outlet_by t flows listed p ≡ None
-outlet_unlisted t flows listed p f n = cond-false {A =
-    Option Place} _ (Some p) (cond {A = Option Place} (is_place (rim_place t (rim_number t p)) p)
-    (get_or listed (rim_number t p) None) None) f ∙ cond-false {A = Option Place} _ _ _ n
+outlet_unlisted t flows listed p f n = rw (f, n)
 
 pub targets_size : (t : Cutting) (flows : List Flow) {targets : List (Option Place)} →
     targets ≡ targets_by t flows → length targets ≡ rim_number_count t
@@ -71,6 +67,12 @@ target_listed t flows made i h =
     ap (λ l. get_or l i None) made
     ∙ get_or-map-range_with_len (target_by t flows) 0 (rim_number_count t) i i None h (omega arith)
 
+-- the target of a rim number is the entry read from a list of the targets
+pub target_is : (t : Cutting) (flows : List Flow) {targets : List (Option Place)} {o : Option Place} →
+    targets ≡ targets_by t flows → (i : ℕ) → i < rim_number_count t → get_or targets i None ≡ o →
+    target_by t flows i ≡ o
+target_is t flows made i h read = sym (target_listed t flows made i h) ∙ read
+
 pub target_in_tile : (t : Cutting) (flows : List Flow) (tile side : ℕ) (f : Flow) →
     side < stride (bounds_of t 0) → slice_get flows tile ≡ Some f →
     target_by t flows (tile * stride (bounds_of t 0) + side) ≡ target_in (bounds_of t 0) f side
@@ -81,7 +83,7 @@ target_in_tile t flows tile side f below is =
     (slice_get flows n)) (div-mul-add tile (stride largest) side below)
     ∙ ap (λ n. option_and_then (λ (g : Flow). target_in largest g n) (slice_get flows tile))
     (mod-mul-add tile (stride largest) side below)
-    ∙ ap (λ (o : Option Flow). option_and_then (λ (g : Flow). target_in largest g side) o) is
+    ∙ ap (option_and_then (λ (g : Flow). target_in largest g side)) is
 
 module _ {d : Directed} {t : Cutting} {flows : List Flow} (s : AreFlowsOf d t flows) where
   pub within_of : {p : Place} → IsCoded d p → IsWithin t p
@@ -93,7 +95,7 @@ module _ {d : Directed} {t : Cutting} {flows : List Flow} (s : AreFlowsOf d t fl
 
   pub last_same : {p e : Place} (k : ℕ) → IsCoded d p → follow d p k ≡ e → last_of d e ≡ last_of d p
   last_same {p} k is way =
-      ap (λ (q : Place). follow d q (moves d)) (sym way) ∙ follow_more d p k (moves d)
+      ap (λ q. follow d q (moves d)) (sym way) ∙ follow_more d p k (moves d)
       ∙ follow_stays d p (moves d) (k + moves d) (omega arith) (stops_of is)
 
   last_here : (p : Place) → IsOutlet d p → last_of d p ≡ p
@@ -114,7 +116,7 @@ module _ {d : Directed} {t : Cutting} {flows : List Flow} (s : AreFlowsOf d t fl
   pub code_here : (p : Place) → IsWithin t p → code_in t flows p ≡ code_at d p
   code_here p w =
       let f = flow_of p w in
-      ap (λ (o : Option Flow). option_and_then (λ (x : Flow). entry_in x.bounds x.codes p) o) f.is
+      ap (option_and_then (λ (x : Flow). entry_in x.bounds x.codes p)) f.is
       ∙ f.right.same_codes p (w, refl)
 
   next_here : {tile : ℕ} {f : Flow} (p : Place) → IsTileExits d t tile f → IsInTile t tile p →
@@ -149,7 +151,7 @@ module _ {d : Directed} {t : Cutting} {flows : List Flow} (s : AreFlowsOf d t fl
 
   abbrev going_out : Flow → Place → Option Place
   going_out f p =
-      cond {A = Option Place} (is_in_bounds f.bounds (next_in f p)) None (Some (next_in f p))
+      cond (is_in_bounds f.bounds (next_in f p)) None (Some (next_in f p))
 
   out_of_bounds : (p : Place) → LeavesTile p →
       is_in_bounds (own_bounds t p) (next d p) ≡ false
@@ -173,10 +175,10 @@ module _ {d : Directed} {t : Cutting} {flows : List Flow} (s : AreFlowsOf d t fl
       let next_is = next_here p f.right (w, refl) in
       let out : is_in_bounds f.flow.bounds (next_in f.flow p) ≡ false =
       ap (is_in_bounds f.flow.bounds) next_is
-      ∙ ap (λ (b : Bounds). is_in_bounds b (next d p)) f.right.bounds ∙ out_of_bounds p c in
+      ∙ ap (λ b. is_in_bounds b (next d p)) f.right.bounds ∙ out_of_bounds p c in
       target_in_tile t flows (tile_of_place t p) side f.flow
       (side_below (bounds_of t 0) (own_bounds t p) p wide high i) f.is
-      ∙ ap (λ (o : Option Place). option_and_then (going_out f.flow) o) cell
+      ∙ ap (option_and_then (going_out f.flow)) cell
       ∙ cond-false {A = Option Place} _ None _ out
       ∙ ap Some next_is
 
@@ -208,11 +210,11 @@ module _ {d : Directed} {t : Cutting} {flows : List Flow} (s : AreFlowsOf d t fl
   }
 
   -- The target of a rim number is the place in another tile that its cell flows into.
-  target_from_cell : (i : ℕ) (f : Flow) (p q : Place) →
+  target_from_cell : (i : ℕ) {f : Flow} {p : Place} (q : Place) →
       IsTileExits d t (i / stride (bounds_of t 0)) f → i / stride (bounds_of t 0) < tile_count t →
       IsCellOf (bounds_of t 0) (bounds_of t (i / stride (bounds_of t 0)))
       (i % stride (bounds_of t 0)) p → going_out f p ≡ Some q → IsTarget i q
-  target_from_cell i f p q right below cell goes =
+  target_from_cell i {f} {p} q right below cell goes =
       let here = in_tile t (i / stride (bounds_of t 0)) p s.cutting below cell.inside in
       let next_is = next_here p right here in
       elim (cases_Bool (is_in_bounds f.bounds (next_in f p))) [
@@ -222,7 +224,7 @@ module _ {d : Directed} {t : Cutting} {flows : List Flow} (s : AreFlowsOf d t fl
             p here cell.number ∙ div-add-mod' i (stride (bounds_of t 0)))
             (crosses_from (i / stride (bounds_of t 0)) p here
             (sym (ap (is_in_bounds f.bounds) next_is
-            ∙ ap (λ (b : Bounds). is_in_bounds b (next d p)) right.bounds) ∙ out))
+            ∙ ap (λ b. is_in_bounds b (next d p)) right.bounds) ∙ out))
             (sym (same_Some _ _ (sym (cond-false {A = Option Place} _ None _ out) ∙ goes))
             ∙ next_is)
       ]
@@ -231,20 +233,20 @@ module _ {d : Directed} {t : Cutting} {flows : List Flow} (s : AreFlowsOf d t fl
   target_from i q e =
       let side : ℕ = i % stride (bounds_of t 0) in
       elim (cases_option (slice_get flows (i / stride (bounds_of t 0)))) [
-        | inl none ↦ absurd (none-some q (sym (ap (λ (o : Option Flow).
-            option_and_then (λ (f : Flow). target_in (bounds_of t 0) f side) o) none) ∙ e))
+        | inl none ↦ absurd (none-some q (sym (ap (option_and_then (λ (f : Flow). target_in (bounds_of t 0) f side))
+            none) ∙ e))
         | inr f ↦ (let right = s.of_tiles.each (i / stride (bounds_of t 0)) f.0 f.1 in
             let below : i / stride (bounds_of t 0) < tile_count t =
             omega (arith, slice_get_within flows _ f.0 f.1, s.of_tiles.count) in
-            let at : target_in (bounds_of t 0) f.0 side ≡ Some q = sym (ap (λ (o : Option Flow).
-            option_and_then (λ (f : Flow). target_in (bounds_of t 0) f side) o) f.1) ∙ e in
+            let at : target_in (bounds_of t 0) f.0 side ≡ Some
+            q = sym (ap (option_and_then (λ (f : Flow). target_in (bounds_of t 0) f side)) f.1) ∙ e in
             elim (cases_option (side_cell (bounds_of t 0) f.0.bounds side)) [
               | inl none ↦ absurd (none-some q
-                  (sym (ap (λ (o : Option Place). option_and_then (going_out f.0) o) none) ∙ at))
-              | inr p ↦ target_from_cell i f.0 p.0 q right below
+                  (sym (ap (option_and_then (going_out f.0)) none) ∙ at))
+              | inr p ↦ target_from_cell i q right below
                   (cell_from (bounds_of t 0) (bounds_of t (i / stride (bounds_of t 0))) side p.0
                   (ap (λ (b : Bounds). side_cell (bounds_of t 0) b side) (sym right.bounds) ∙ p.1))
-                  (sym (ap (λ (o : Option Place). option_and_then (going_out f.0) o) p.1) ∙ at)
+                  (sym (ap (option_and_then (going_out f.0)) p.1) ∙ at)
             ])
       ]
 
@@ -267,11 +269,11 @@ module _ {d : Directed} {t : Cutting} {flows : List Flow} (s : AreFlowsOf d t fl
     pub exit : exit_by t flows q ≡ Some e
     pub leads : IsExitOf d t q e
     pub out : next_exit_by t flows q
-        ≡ cond {A = Option Place} (is_outlet_code (code_at d e)) None (Some e)
+        ≡ cond (is_outlet_code (code_at d e)) None (Some e)
 
-  pub exit_in_tile : (q e : Place) → IsCoded d q → IsExitOf d t q e →
+  pub exit_in_tile : {q : Place} (e : Place) → IsCoded d q → IsExitOf d t q e →
       IsCoded d e × (tile_of_place t e ≡ tile_of_place t q)
-  exit_in_tile q e is x =
+  exit_in_tile {q} e is x =
       let at : x.0 < x.0 + 1 = omega arith in
       let there : tile_of_place t (follow d q x.0) ≡ tile_of_place t q =
       eqb-true _ _ (every_in_range (λ j. eqb (tile_of_place t (follow d q j)) (tile_of_place t q))
@@ -296,18 +298,18 @@ module _ {d : Directed} {t : Cutting} {flows : List Flow} (s : AreFlowsOf d t fl
       let w = within_of is in
       let f = flow_of q w in
       let m = MatchOption-at_some _ _ is.code is.is (f.right.each q (w, refl)) in
-      let x = exit_in_tile q m.0 is m.2 in
+      let x = exit_in_tile m.0 is m.2 in
       let same : entry_in f.flow.bounds f.flow.codes m.0 ≡ code_at d m.0 =
       f.right.same_codes m.0 (within_of x.0, x.1) in (
         m.0,
         record {
-          exit = ap (λ (o : Option Flow). option_and_then (λ (z : Flow). exit_in z q) o) f.is ∙ m.1;
+          exit = ap (option_and_then (λ (z : Flow). exit_in z q)) f.is ∙ m.1;
           leads = m.2;
-          out = ap (λ (o : Option Flow). option_and_then (λ (z : Flow). next_exit_in z q) o) f.is
-              ∙ ap (λ (o : Option Place). option_and_then (λ (e : Place). cond {A = Option Place}
-              (is_outlet_code (entry_in f.flow.bounds f.flow.codes e)) None (Some e)) o) m.1
-              ∙ ap (λ (o : Option ℕ).
-              cond {A = Option Place} (is_outlet_code o) None (Some m.0)) same;
+          out = ap (option_and_then (λ (z : Flow). next_exit_in z q)) f.is
+              ∙ ap (option_and_then (λ (e : Place). cond
+              (is_outlet_code (entry_in f.flow.bounds f.flow.codes e)) None (Some e))) m.1
+              ∙ ap (λ o.
+              cond (is_outlet_code o) None (Some m.0)) same;
         },
       )
 
@@ -319,17 +321,17 @@ module _ {d : Directed} {t : Cutting} {flows : List Flow} (s : AreFlowsOf d t fl
       IsWithin t e
   next_exit_within q e w x = elim (cases_coded d q) [
     | inr is ↦ (let y = exit_here is in elim (cases_Bool (is_outlet_code (code_at d y.0))) [
-      | inl out ↦ absurd (none-some e (sym (cond-true {A = Option Place} _ None (Some y.0) out)
+      | inl out ↦ absurd (none-some e (sym (cond-true _ None (Some y.0) out)
           ∙ sym y.1.out ∙ x))
-      | inr goes ↦ rw (same_Some y.0 e (sym (cond-false {A = Option Place} _ None (Some y.0) goes)
-          ∙ sym y.1.out ∙ x)) at (within_of (exit_in_tile q y.0 is y.1.leads).0)
+      | inr goes ↦ rw (same_Some y.0 e (sym (cond-false _ None (Some y.0) goes)
+          ∙ sym y.1.out ∙ x)) at (within_of (exit_in_tile y.0 is y.1.leads).0)
     ])
     | inl none ↦ (let f = flow_of q w in
         let m = MatchOption-at_none _ _ none (f.right.each q (w, refl)) in
         absurd (none-some e
-        (sym (ap (λ (o : Option Flow). option_and_then (λ (z : Flow). next_exit_in z q) o) f.is
-        ∙ ap (λ (o : Option Place). option_and_then (λ (e : Place). cond {A = Option Place}
-        (is_outlet_code (entry_in f.flow.bounds f.flow.codes e)) None (Some e)) o) m) ∙ x)))
+        (sym (ap (option_and_then (λ (z : Flow). next_exit_in z q)) f.is
+        ∙ ap (option_and_then (λ (e : Place). cond
+        (is_outlet_code (entry_in f.flow.bounds f.flow.codes e)) None (Some e))) m) ∙ x)))
   ]
 
   -- Rim number i has a next exit into another tile, `to`, and is linked to the rim number of `to`.
@@ -347,11 +349,11 @@ module _ {d : Directed} {t : Cutting} {flows : List Flow} (s : AreFlowsOf d t fl
     pub steps : ℕ
     pub way : follow d (rim_place t i) (suc steps) ≡ to
     pub outlet : IsOutlet d to
-    pub exit : option_and_then (λ q. exit_by t flows q) (target_by t flows i) ≡ Some to
+    pub exit : option_and_then (exit_by t flows) (target_by t flows i) ≡ Some to
     pub link : rim_link t flows i ≡ i
 
   abbrev link_by : ℕ → Option Place → ℕ
-  link_by i o = number_or t i (option_and_then (λ q. next_exit_by t flows q) o)
+  link_by i o = number_or t i (option_and_then (next_exit_by t flows) o)
 
   pub next_or_last_exit : (i : ℕ) (q : Place) → target_by t flows i ≡ Some q → NextExit i ⊎
       LastExit i
@@ -360,9 +362,9 @@ module _ {d : Directed} {t : Cutting} {flows : List Flow} (s : AreFlowsOf d t fl
       let is = (target_within i q e).0 in
       let y = exit_here is in
       let leads = y.1.leads in
-      let way : follow d (rim_place t i) (suc leads.0) ≡ y.0 = sym (ap (λ (r : Place).
+      let way : follow d (rim_place t i) (suc leads.0) ≡ y.0 = sym (ap (λ r.
       follow d r leads.0) x.is ∙ follow_first d (rim_place t i) leads.0) ∙ leads.3 in
-      let link : rim_link t flows i ≡ number_or t i (cond {A = Option Place} (is_outlet_code
+      let link : rim_link t flows i ≡ number_or t i (cond (is_outlet_code
       (code_at d y.0)) None (Some y.0)) = ap (link_by i) e ∙ ap (number_or t i) y.1.out in
       elim leads.4.1 [
         | inl out ↦ inr (record {
@@ -370,19 +372,19 @@ module _ {d : Directed} {t : Cutting} {flows : List Flow} (s : AreFlowsOf d t fl
           steps = leads.0;
           way = way;
           outlet = out;
-          exit = ap (λ (o : Option Place). option_and_then (λ q. exit_by t flows q) o) e ∙ y.1.exit;
-          link = link ∙ ap (number_or t i) (cond-true {A = Option Place} _ None (Some y.0)
+          exit = ap (option_and_then (exit_by t flows)) e ∙ y.1.exit;
+          link = link ∙ ap (number_or t i) (cond-true _ None (Some y.0)
               (ap is_outlet_code out));
         })
         | inr apart ↦ (let c : LeavesTile y.0 =
-            record { coded = (exit_in_tile q y.0 is leads).0; apart = apart } in
+            record { coded = (exit_in_tile y.0 is leads).0; apart = apart } in
             inl (record {
               to = y.0;
               crosses = c;
               steps = leads.0;
-              still = subst (λ (z : Place). stays d t z leads.0 ≡ true) x.is leads.2;
+              still = subst (λ z. stays d t z leads.0 ≡ true) x.is leads.2;
               way = way;
-              link = link ∙ ap (number_or t i) (cond-false {A = Option Place} _ None (Some y.0)
+              link = link ∙ ap (number_or t i) (cond-false _ None (Some y.0)
                   (not_outlet c));
             }))
       ]
@@ -426,8 +428,8 @@ module _ {d : Directed} {t : Cutting} {flows : List Flow} (s : AreFlowsOf d t fl
       | inl none ↦ (0, link_at i h ∙ untargeted i none)
       | inr q ↦ elim (next_or_last_exit i q.0 q.1) [
         | inr e ↦ (0, link_at i h ∙ e.link)
-        | inl g ↦ (let there = subst (λ (z : Place). StopsAt d z n) (sym (back g.crosses))
-            (stops_sooner d (rim_place t i) g.to g.steps n g.way (stop q.0 q.1)) in
+        | inl g ↦ (let there = subst (λ z. StopsAt d z n) (sym (back g.crosses))
+            (stops_sooner d (rim_place t i) g.steps n g.way (stop q.0 q.1)) in
             let r = stop_within n (rim_number t g.to) (to_below g.crosses) (λ z e. there) in
             let same : node_after links (rim_number t g.to) r.0 ≡ node_after links i (suc r.0) =
             ap (λ j. node_after links j r.0) (sym (link_at i h ∙ g.link))
@@ -449,9 +451,9 @@ module _ {d : Directed} {t : Cutting} {flows : List Flow} (s : AreFlowsOf d t fl
       pub target : target_by t flows j ≡ Some entry
       pub last : last_of d (rim_place t j) ≡ last_of d (rim_place t i)
 
-    step_on : (i j : ℕ) → j < rim_number_count t → SharesOutlet i j → SharesOutlet i
+    step_on : {i j : ℕ} → j < rim_number_count t → SharesOutlet i j → SharesOutlet i
         (next_node links j)
-    step_on i j h o =
+    step_on {j = j} h o =
         let c = (target_from j o.entry o.target).crosses in
         elim (next_or_last_exit j o.entry o.target) [
           | inr e ↦ rw (link_at j h ∙ e.link) o
@@ -468,8 +470,8 @@ module _ {d : Directed} {t : Cutting} {flows : List Flow} (s : AreFlowsOf d t fl
         SharesOutlet i (node_after links i k)
     on_way i h q e zero = record { entry = q; target = e; last = refl }
     on_way i h q e (suc k) =
-        step_on i (node_after links i k) (omega
-        (arith, node_after-inside links rim_streams i (omega (arith, h, links_size)) k, links_size))
+        step_on (omega
+        (arith, node_after-inside rim_streams i (omega (arith, h, links_size)) k, links_size))
         (on_way i h q e k)
 
     module _ {ends : List ℕ} (found : AreEnds links ends) where
@@ -481,14 +483,14 @@ module _ {d : Directed} {t : Cutting} {flows : List Flow} (s : AreFlowsOf d t fl
       outlet_of i h q e =
           let here : i < length links = omega (arith, h, links_size) in
           let below : end_of links i < rim_number_count t =
-          omega (arith, node_after-inside links rim_streams i here (length links), links_size) in
+          omega (arith, node_after-inside rim_streams i here (length links), links_size) in
           let o = on_way i h q e (length links) in
           let c = (target_from (end_of links i) o.entry o.target).crosses in
           let first : rim_outlet t flows ends i
-          ≡ option_and_then (λ q. exit_by t flows q) (target_by t flows (end_of links i)) =
-          ap (λ (x : Option Place). option_and_then (λ (y : Place).
-          option_and_then (λ q. exit_by t flows q) (target_by t flows (get_or ends i 0))) x) e
-          ∙ ap (λ n. option_and_then (λ q. exit_by t flows q) (target_by t flows n))
+          ≡ option_and_then (exit_by t flows) (target_by t flows (end_of links i)) =
+          ap (option_and_then (λ (y : Place).
+          option_and_then (exit_by t flows) (target_by t flows (get_or ends i 0)))) e
+          ∙ ap (λ n. option_and_then (exit_by t flows) (target_by t flows n))
           (found.each i here) in
           elim (next_or_last_exit (end_of links i) o.entry o.target) [
             | inr x ↦ first ∙ x.exit
@@ -504,7 +506,7 @@ module _ {d : Directed} {t : Cutting} {flows : List Flow} (s : AreFlowsOf d t fl
           (listed : outlets ≡ rim_outlets_by t flows ends) where
         listed_at : (i : ℕ) → i < rim_number_count t → get_or outlets i None ≡ rim_outlet t flows
             ends i
-        listed_at i h = ap (λ (l : List (Option Place)). get_or l i None) listed
+        listed_at i h = ap (λ l. get_or l i None) listed
             ∙ get_or-map-range_with_len (rim_outlet t flows ends) 0 (rim_number_count t) i i None h
             (omega arith)
 
@@ -521,7 +523,7 @@ module _ {d : Directed} {t : Cutting} {flows : List Flow} (s : AreFlowsOf d t fl
                   ∙ not_outlet c) (is_place_from _ _ (back c))
                   ∙ listed_at (rim_number t p) (to_below c)
                   ∙ outlet_of (rim_number t p) (to_below c) (next d p) (target_on c)
-                  ∙ ap (λ (q : Place). Some (last_of d q)) (back c))
+                  ∙ ap (λ q. Some (last_of d q)) (back c))
             ]
 
         no_exit_outlet : (p : Place) → IsWithin t p → (IsExitCell d t p → ⊥) →
@@ -529,18 +531,17 @@ module _ {d : Directed} {t : Cutting} {flows : List Flow} (s : AreFlowsOf d t fl
         no_exit_outlet p w out =
             let off : is_outlet_code (code_in t flows p) ≡ false = false_from_ne_true _ (λ y.
             (let o = outlet_from_code (code_at d p) (sym (ap is_outlet_code (code_here p w)) ∙ y) in
-            out (ap (λ (c : Option ℕ). is_some c) o, inl o))) in
+            out (ap is_some o, inl o))) in
             elim (cases_Bool (is_place (rim_place t (rim_number t p)) p)) [
               | inr f ↦ outlet_unlisted t flows outlets p off f
               | inl y ↦ outlet_listed t flows outlets p off y
                   ∙ listed_at (rim_number t p) (number_below t s.cutting p w)
                   ∙ elim (cases_option (target_by t flows (rim_number t p))) [
-                    | inl none ↦ ap (λ (x : Option Place).
-                        option_and_then (λ (z : Place). option_and_then (λ q. exit_by t flows q)
-                        (target_by t flows (get_or ends (rim_number t p) 0))) x) none
-                    | inr q ↦ (let c = subst (λ (z : Place). LeavesTile z) (place_is _ _ y)
+                    | inl none ↦ ap (option_and_then (λ (z : Place). option_and_then (exit_by t flows)
+                        (target_by t flows (get_or ends (rim_number t p) 0)))) none
+                    | inr q ↦ (let c = subst (λ z. LeavesTile z) (place_is _ _ y)
                         (target_from (rim_number t p) q.0 q.1).crosses in
-                        absurd (out (ap (λ (c : Option ℕ). is_some c) c.coded.is, inr c.apart)))
+                        absurd (out (ap is_some c.coded.is, inr c.apart)))
                   ]
             ]
 

@@ -80,11 +80,11 @@ module _ {d : Directed} {t : Cutting} {flows : List Flow} (s : AreFlowsOf d t fl
       }
 
   -- A flow path enters p from at most one cell of another tile.
-  enters_once : (p q : Place) → IsCoded d q → (a b : ℕ) → LeavesTile s (follow d q a) →
+  enters_once : {p q : Place} → IsCoded d q → (a b : ℕ) → LeavesTile s (follow d q a) →
       next d (follow d q a) ≡ p → LeavesTile s (follow d q b) → next d
       (follow d q b) ≡ p →
       follow d q a ≡ follow d q b
-  enters_once p q is a b c first x second =
+  enters_once {p} {q} is a b c first x second =
       let e = ending s counts in
       ap (follow d q) (enters_from_one e (λ z. z ≡ p) is (first ∙ sym second)
       (one_move e q p a first (λ z. c.apart (ap (tile_of_place t) (first ∙ sym z))))
@@ -106,10 +106,10 @@ module _ {d : Directed} {t : Cutting} {flows : List Flow} (s : AreFlowsOf d t fl
   cases_lead : (p : Place) → rim_place t (rim_number t p) ≡ p → (i : ℕ) →
       ((amount : ℕ) → sent_to t (rim_number t p) (target_by t flows i) amount ≡ 0) ⊎ LeadsTo p i
   cases_lead p on i = elim (cases_option (target_by t flows i)) [
-    | inl none ↦ inl (λ amount. ap (λ (o : Option Place). sent_to t (rim_number t p) o amount) none)
+    | inl none ↦ inl (λ amount. ap (λ o. sent_to t (rim_number t p) o amount) none)
     | inr q ↦ elim (cases_Bool (eqb (rim_number t q.0) (rim_number t p))) [
-      | inr f ↦ inl (λ amount. ap (λ (o : Option Place). sent_to t (rim_number t p) o amount) q.1
-          ∙ cond-false {A = ℕ} _ amount 0 f)
+      | inr f ↦ inl (λ amount. ap (λ o. sent_to t (rim_number t p) o amount) q.1
+          ∙ cond-false _ amount 0 f)
       | inl y ↦
           let x = target_from s i q.0 q.1 in
           inr (record {
@@ -148,13 +148,13 @@ module _ {d : Directed} {t : Cutting} {flows : List Flow} (s : AreFlowsOf d t fl
               one_term (piece p c) (rim_number_count t) (rim_number t (follow d (cell d c) x.steps))
               (to_below s x.crosses)
               (λ i h ne. piece_off p on c i (λ m at l.
-              let same = enters_once p (cell d c) is m x.steps (rw (at) l.crosses) (ap (next d) at ∙ l.leads)
+              let same = enters_once is m x.steps (rw (at) l.crosses) (ap (next d) at ∙ l.leads)
               x.crosses x.leads in
               ne (sym l.number ∙ ap (rim_number t) (sym at ∙ same))))
-              ∙ ap (λ (o : Option Place). sent_to t (rim_number t p) o
+              ∙ ap (λ o. sent_to t (rim_number t p) o
               (drained d (rim_place t (rim_number t (follow d (cell d c) x.steps))) (cell d c)))
               (target_on s x.crosses)
-              ∙ cond-true {A = ℕ} _ (drained d (rim_place t (rim_number t
+              ∙ cond-true _ (drained d (rim_place t (rim_number t
               (follow d (cell d c) x.steps))) (cell d c)) 0 (eq-eqb _ _ (ap (rim_number t) x.leads))
               ∙ ap (λ z.
               drained d z (cell d c)) (back s x.crosses)
@@ -199,16 +199,16 @@ module _ {d : Directed} {t : Cutting} {flows : List Flow} (s : AreFlowsOf d t fl
         ∙ elim (cases_option (target_by t flows i)) [
           | inl none ↦ ap (λ (o : Option Place).
               sent_to t k o (get_or totals i 0)) none
-              ∙ sym (ap (λ (o : Option Place). sent_to t k o (all_drained d (rim_place t i))) none)
+              ∙ sym (ap (λ o. sent_to t k o (all_drained d (rim_place t i))) none)
           | inr q ↦ ap (sent_to t k (target_by t flows i)) (at
               ∙ total_drained s counts made weighed i q.0 h q.1)
         ]
 
     -- All amounts sent to a place on the rim add up to its inflow.
-    entering_is : (p : Place) → rim_place t (rim_number t p) ≡ p →
+    entering_is : {p : Place} → rim_place t (rim_number t p) ≡ p →
         sum_below (entering t targets totals (rim_number t p)) (rim_number_count t)
         ≡ sum_below (λ c. entered d t p (cell d c)) (d.rows * d.cols)
-    entering_is p on =
+    entering_is {p} on =
         sum_below-same (entering t targets totals (rim_number t p)) (λ i.
         sum_below (λ c. piece p c i) (d.rows * d.cols)) (rim_number_count t)
         (λ i h. sends (rim_number t p) i h ∙ sent-sum t (rim_number t p) (target_by t flows i)
@@ -227,7 +227,7 @@ module _ {d : Directed} {t : Cutting} {flows : List Flow} (s : AreFlowsOf d t fl
               omega (
                 arith,
                 same,
-                entering_is (rim_place t k) (ap (rim_place t) e),
+                entering_is (ap (rim_place t) e),
                 entered_few (ending s counts) t (rim_place t k),
               )
           | inr ne ↦
@@ -247,7 +247,7 @@ module _ {d : Directed} {t : Cutting} {flows : List Flow} (s : AreFlowsOf d t fl
                           ∙ sym x.is in
                           ap (λ (o : Option Place).
                           sent_to t k o (get_or totals i 0)) q.1
-                          ∙ cond-false {A = ℕ} _ (get_or totals i 0) 0
+                          ∙ cond-false _ (get_or totals i 0) 0
                           (ne_eqb _ _ (λ e. ne (ap (λ n. rim_number t (rim_place t n)) (sym e)
                           ∙ ap (rim_number t) back_at ∙ e)))
                     ]),
@@ -257,11 +257,11 @@ module _ {d : Directed} {t : Cutting} {flows : List Flow} (s : AreFlowsOf d t fl
     module _ {listed : List ℕ} (are : AreEntering t targets totals listed) where
       pub inflow_at : (p : Place) → IsWithin t p → inflow_by t listed p ≡ inflow_of d t p
       inflow_at p w = elim (cases_Bool (is_place (rim_place t (rim_number t p)) p)) [
-        | inr f ↦ cond-false {A = ℕ} _ (get_or listed (rim_number t p) 0) 0 f
+        | inr f ↦ cond-false _ (get_or listed (rim_number t p) 0) 0 f
             ∙ sym (inflow_none p (λ e. false≢true (sym f ∙ is_place_from _ _ e)))
-        | inl y ↦ cond-true {A = ℕ} _ (get_or listed (rim_number t p) 0) 0 y
+        | inl y ↦ cond-true _ (get_or listed (rim_number t p) 0) 0 y
             ∙ are.each (rim_number t p) (number_below t s.cutting p w)
-            ∙ entering_is p (place_is _ _ y)
+            ∙ entering_is (place_is _ _ y)
             ∙ sym (inflow_sum d t p)
       ]
 

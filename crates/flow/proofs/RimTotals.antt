@@ -103,10 +103,10 @@ module _ {d : Directed} {t : Cutting} {flows : List Flow} (s : AreFlowsOf d t fl
     link_on {e} c is to =
         let x = exit_here s is in
         link_at s made (rim_number t e) (to_below s c)
-        ∙ ap (λ (o : Option Place). number_or t (rim_number t e)
-        (option_and_then (λ q. next_exit_by t flows q) o)) (target_on s c)
+        ∙ ap (λ o. number_or t (rim_number t e)
+        (option_and_then (next_exit_by t flows) o)) (target_on s c)
         ∙ ap (number_or t (rim_number t e)) (x.1.out
-        ∙ cond-false {A = Option Place} _ None (Some x.0) (not_outlet s to))
+        ∙ cond-false _ None (Some x.0) (not_outlet s to))
 
     -- A flow path from cell c to exit i stays in the tile of c, or passes exactly one other exit
     -- linked to i.
@@ -138,7 +138,7 @@ module _ {d : Directed} {t : Cutting} {flows : List Flow} (s : AreFlowsOf d t fl
               follow d c x.from ≡ rim_place t j → ⊥) → ⊥
           crosses_over j m at g same apart none =
               let on : (l : ℕ) → follow d c (m + suc l) ≡ follow d (next d (rim_place t j)) l =
-              λ l. sym (follow_more d c m (suc l)) ∙ ap (λ (p : Place). follow d p (suc l)) at
+              λ l. sym (follow_more d c m (suc l)) ∙ ap (λ p. follow d p (suc l)) at
               ∙ sym (follow_first d (rim_place t j) l) in
               let last : follow d (next d (rim_place t j)) g.steps ≡ rim_place t i =
               follow_first d (rim_place t j) g.steps ∙ g.way ∙ same in
@@ -259,8 +259,7 @@ module _ {d : Directed} {t : Cutting} {flows : List Flow} (s : AreFlowsOf d t fl
                     (λ m there z at_j number.
                     ne (sym number ∙ ap (rim_number t) (sym at_j ∙ ap (follow d c)
                     (enters_from_one ending In is (there ∙ sym at) z x))))),
-                cond-true {A =
-                    ℕ} _ (drained d (rim_place t (rim_number t (follow d c x.from))) c) 0 leads,
+                cond-true _ (drained d (rim_place t (rim_number t (follow d c x.from))) c) 0 leads,
                 counted_on
                     is (drains_at ending is x.from (sym place)),
               )
@@ -315,12 +314,12 @@ module _ {d : Directed} {t : Cutting} {flows : List Flow} (s : AreFlowsOf d t fl
         | inr q ↦ omega (arith, total_drained i q.0 h q.1, drained_few ending (rim_place t i))
         | inl none ↦ omega (
           arith,
-          (totals_are links weights (rim_streams s made)).each i (linked i h),
+          (totals_are weights (rim_streams s made)).each i (linked i h),
           weight_at i h,
           weight_untargeted i none,
           sum_below-none (λ j. upstream links j i (total links weights j))
               (length links)
               (λ j m.
-              cond-false {A = ℕ} _ (total links weights j) 0 (none_leads i j none (numbered j m))),
+              cond-false _ (total links weights j) 0 (none_leads i j none (numbered j m))),
         )
       ]

@@ -30,7 +30,7 @@ sent_on-open links waits totals i j f = cond-false _ _ _ (and_right _ _ f)
 
 sent_on-all : (links waits totals : List ℕ) (i j : ℕ) → has_sent waits j ≡ true →
     sent_on links waits totals i j ≡ upstream links j i (get_or totals j 0)
-sent_on-all links waits totals i j t = ap (λ x. cond {A = ℕ} x (get_or totals j 0) 0)
+sent_on-all links waits totals i j t = ap (λ x. cond x (get_or totals j 0) 0)
     (and_on (leads_to links j i) t)
 
 awaited_from : (links waits : List ℕ) (i j : ℕ) → 0 < waiting links waits i j →
@@ -45,43 +45,43 @@ open_from_count : (waits : List ℕ) (i : ℕ) → get_or waits i 0 < sent_entry
 open_from_count waits i l = ne_eqb _ _ (λ e. omega (arith, e))
 
 -- A node that is no end leads to its link and to no other node.
-pub leads_test : (links : List ℕ) (node next i : ℕ) → next ≡ next_node links node → next ≢ node →
+pub leads_test : (links : List ℕ) (node : ℕ) {next : ℕ} (i : ℕ) → next ≡ next_node links node → next ≢ node →
     leads_to links node i ≡ eqb next i
-leads_test links node next i is ne = elim (cases_eq next i) [
+leads_test links node {next} i is ne = elim (cases_eq next i) [
   | inl e ↦ leads_from links node (sym is ∙ e) (λ z. ne (e ∙ sym z)) ∙ sym (eq-eqb next i e)
   | inr off ↦ and_left _ _ (ne_eqb _ _ (λ z. off (is ∙ z))) ∙ sym (ne_eqb next i off)
 ]
 
 -- Raising entry k by v adds v to entry k and nothing to any other.
 pub added_at : (xs : List ℕ) (k v i : ℕ) → k < length xs →
-    get_or (set xs k (get_or xs k 0 + v)) i 0 ≡ get_or xs i 0 + cond {A = ℕ} (eqb k i) v 0
+    get_or (set xs k (get_or xs k 0 + v)) i 0 ≡ get_or xs i 0 + cond (eqb k i) v 0
 added_at xs k v i h = elim (cases_eq k i) [
   | inl e ↦ omega (
     arith,
     ap (λ n. get_or (set xs k (get_or xs k 0 + v)) n 0) e,
     get_or-set_same xs k (get_or xs k 0 + v) 0 h,
     ap (λ n. get_or xs n 0) e,
-    cond-true {A = ℕ} _ v 0 (eq-eqb k i e),
+    cond-true _ v 0 (eq-eqb k i e),
   )
   | inr ne ↦ omega (
     arith,
     get_or-set_other xs k i (get_or xs k 0 + v) 0 (λ e. ne (sym e)),
-    cond-false {A = ℕ} _ v 0 (ne_eqb k i ne),
+    cond-false _ v 0 (ne_eqb k i ne),
   )
 ]
 
 -- Bounds on totals while nodes send; the state before any node has sent, and after all have.
 
-part_le : (a b : Bool) (n : ℕ) → cond {A = ℕ} (a && b) n 0 ≤ cond {A = ℕ} a n 0
+part_le : (a b : Bool) (n : ℕ) → cond (a && b) n 0 ≤ cond a n 0
 part_le true true n = omega arith
 part_le true false n = omega arith
 part_le false b n = omega arith
 
 -- If no entry of `waits` is 0, every node has sent.
-all_sent : (links weights waits totals : List ℕ) → IsSending links weights waits totals →
+all_sent : {links weights waits totals : List ℕ} → IsSending links weights waits totals →
     ((i : ℕ) → i < length links → get_or waits i 0 ≢ 0) →
     (i : ℕ) → i < length links → has_sent waits i ≡ true
-all_sent links weights waits totals s some =
+all_sent {links = links} {waits = waits} s some =
     each_downstream s.streams (λ _ i. has_sent waits i ≡ true)
     (λ _ i h before. true_from_ne_false _ (λ f.
     (let above : 0 < sum_below (waiting links waits i) (length links) =
@@ -99,7 +99,7 @@ sums_from links weights waits totals s some = record {
       arith,
       s.sums i h,
       sum_below-same (sent_on links waits totals i) (λ j. upstream links j i (get_or totals j 0)) (length links) (λ j l.
-          sent_on-all links waits totals i j (all_sent links weights waits totals s some j l)),
+          sent_on-all links waits totals i j (all_sent s some j l)),
     );
   }) i h);
 }
@@ -178,7 +178,7 @@ module _ {links waits : List ℕ} (few : length links ≤ 2 ^ 30) {node donors :
   donors_few = omega (
     arith,
     m.each node inside,
-    cond-true {A = ℕ} _ donors 0 (eq-eqb node node refl),
+    cond-true _ donors 0 (eq-eqb node node refl),
     sum_below-few (waiting links waits node) (length links) (λ j l.
         bit_le (leads_to links j node && not (has_sent waits j))),
   )
@@ -216,7 +216,7 @@ module _ {links waits : List ℕ} (few : length links ≤ 2 ^ 30) {node donors :
     ]
 
     pub set_from : (from : ℕ) → (node ≡ from) ⊎ IsMarked waits from → IsMarked (set waits node entry) from
-    set_from from (inl e) = subst (λ (n : ℕ). IsMarked (set waits node entry) n) e set_marked
+    set_from from (inl e) = subst (λ n. IsMarked (set waits node entry) n) e set_marked
     set_from from (inr was) = set_kept from was
 
     noted_all : (i : ℕ) → i < length links →
@@ -229,7 +229,7 @@ module _ {links waits : List ℕ} (few : length links ≤ 2 ^ 30) {node donors :
         get_or-set_same waits node entry 0 (omega (arith, m.size, inside)),
         counts,
         m.each node inside,
-        cond-true {A = ℕ} _ donors 0 (eq-eqb node node refl),
+        cond-true _ donors 0 (eq-eqb node node refl),
         ap (λ n. sum_below (waiting links waits n) (length links)) e,
       )
       | inr ne ↦ omega (
@@ -237,7 +237,7 @@ module _ {links waits : List ℕ} (few : length links ≤ 2 ^ 30) {node donors :
         ap (λ b. cond {A = ℕ} b 0 (get_or (set waits node entry) i 0)) (same_mark i ne),
         ap (λ n. cond {A = ℕ} (has_sent waits i) 0 n) (get_or-set_other waits node i entry 0 ne),
         m.each i h,
-        cond-false {A = ℕ} _ donors 0 (ne_eqb node i (λ e. ne (sym e))),
+        cond-false _ donors 0 (ne_eqb node i (λ e. ne (sym e))),
       )
     ]
 
@@ -273,12 +273,12 @@ module _ {links waits : List ℕ} (few : length links ≤ 2 ^ 30) {node donors :
         waiting-open links (set waits node entry) i node open_now,
       )
 
-      pub mark_on : (next : ℕ) → next ≡ get_or links node 0 → next ≢ node →
+      pub mark_on : {next : ℕ} → next ≡ get_or links node 0 → next ≢ node →
           AreMarks links (set waits node entry) next 1
-      mark_on next is ne = record {
+      mark_on {next} is ne = record {
         size = length-set waits node entry ∙ m.size;
         each = λ i h. omega
-            (arith, marked_sum i h, ap (λ b. cond {A = ℕ} b 1 0) (leads_test links node next i is ne));
+            (arith, marked_sum i h, ap (λ b. cond {A = ℕ} b 1 0) (leads_test links node i is ne));
       }
 
       pub mark_end : get_or links node 0 ≡ node → AreMarks links (set waits node entry) 0 0
@@ -287,7 +287,7 @@ module _ {links waits : List ℕ} (few : length links ≤ 2 ^ 30) {node donors :
         each = λ i h. omega (
           arith,
           marked_sum i h,
-          cond-false {A = ℕ} _ 1 0 (leads_end links node i end),
+          cond-false {A = ℕ} _ 1 0 (leads_end links i end),
           cond_same (eqb 0 i),
         );
       }
@@ -304,8 +304,8 @@ marks_none links waits none = record {
   );
 }
 
-pub marks_of : (links waits : List ℕ) (from node : ℕ) → AreMarks links waits from 0 → AreMarks links waits node 0
-marks_of links waits from node m = record {
+pub marks_of : {links waits : List ℕ} {from : ℕ} (node : ℕ) → AreMarks links waits from 0 → AreMarks links waits node 0
+marks_of {from = from} node m = record {
   size = m.size;
   each = λ i h. omega (arith, m.each i h, cond_same (eqb from i), cond_same (eqb node i));
 }
@@ -325,7 +325,7 @@ record MovesOn (links waits totals new_waits new_totals : List ℕ) (node : ℕ)
 module _ {links weights waits totals : List ℕ} (s : IsSending links weights waits totals) where
   -- A node's total so far is at most its total.
   so_far_le : (i : ℕ) → i < length links → get_or totals i 0 ≤ total links weights i
-  so_far_le = totals_le links s.streams (λ j. get_or weights j 0) (λ j. get_or totals j 0)
+  so_far_le = totals_le s.streams (λ j. get_or weights j 0) (λ j. get_or totals j 0)
       (total links weights)
       (λ i h. omega (
         arith,
@@ -333,7 +333,7 @@ module _ {links weights waits totals : List ℕ} (s : IsSending links weights wa
         sum_below-le (sent_on links waits totals i) (λ j. upstream links j i (get_or totals j 0)) (length links) (λ j l.
             part_le (leads_to links j i) (has_sent waits j) (get_or totals j 0)),
       ))
-      (λ i h. omega (arith, (totals_are links weights s.streams).each i h))
+      (λ i h. omega (arith, (totals_are weights s.streams).each i h))
 
   module _ (node : ℕ) (inside : node < length links) (ready : get_or waits node 0 ≡ 0) where
     node_open : has_sent waits node ≡ false
@@ -409,7 +409,7 @@ module _ {links weights waits totals : List ℕ} (s : IsSending links weights wa
       totals_still : (j : ℕ) → leads_to links node j ≡ false →
           get_or new_totals j 0 ≡ get_or totals j 0
       totals_still j off = omega
-          (arith, m.more j, cond-false {A = ℕ} _ (get_or totals node 0) 0 off)
+          (arith, m.more j, cond-false _ (get_or totals node 0) 0 off)
 
       same_sent : (i j : ℕ) → j < length links → j ≢ node →
           sent_on links new_waits new_totals i j ≡ sent_on links waits totals i j
@@ -507,7 +507,7 @@ module _ {links weights waits totals : List ℕ} (s : IsSending links weights wa
         others next on,
         ap (λ n. get_or waits n 0) e,
         step_waits,
-        ap (λ b. cond {A = ℕ} b 1 0) (leads_test links node next i is on),
+        ap (λ b. cond {A = ℕ} b 1 0) (leads_test links node i is on),
         cond-true {A = ℕ} _ 1 0 (eq-eqb next i e),
       )
       | inr other ↦ omega (
@@ -515,7 +515,7 @@ module _ {links weights waits totals : List ℕ} (s : IsSending links weights wa
         get_or-set_other (set waits node sent_entry) next i
             (get_or (set waits node sent_entry) next 0 - 1) 0 (λ e. other (sym e)),
         others i ne,
-        ap (λ b. cond {A = ℕ} b 1 0) (leads_test links node next i is on),
+        ap (λ b. cond {A = ℕ} b 1 0) (leads_test links node i is on),
         cond-false {A = ℕ} _ 1 0 (ne_eqb next i other),
       )
     ]
@@ -531,8 +531,8 @@ module _ {links weights waits totals : List ℕ} (s : IsSending links weights wa
       fewer = fewer;
       more = λ i. added_at totals next (get_or totals node 0) i
           (omega (arith, s.totals_size, next_inside))
-          ∙ ap (λ b. get_or totals i 0 + cond {A = ℕ} b (get_or totals node 0) 0)
-          (sym (leads_test links node next i is on));
+          ∙ ap (λ b. get_or totals i 0 + cond b (get_or totals node 0) 0)
+          (sym (leads_test links node i is on));
     }
 
     pub step_sending : IsSending links weights (next_waits_list waits node next)
@@ -568,10 +568,10 @@ module _ {links weights waits totals : List ℕ} (s : IsSending links weights wa
       totals_size = refl;
       sent = sent;
       fewer = λ i ne. omega
-          (arith, others i ne, cond-false {A = ℕ} _ 1 0 (leads_end links node i (sym is ∙ end)));
+          (arith, others i ne, cond-false {A = ℕ} _ 1 0 (leads_end links i (sym is ∙ end)));
       more = λ i. omega (
         arith,
-        cond-false {A = ℕ} _ (get_or totals node 0) 0 (leads_end links node i (sym is ∙ end)),
+        cond-false _ (get_or totals node 0) 0 (leads_end links i (sym is ∙ end)),
       );
     }
 

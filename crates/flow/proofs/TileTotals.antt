@@ -126,7 +126,7 @@ module _ {d : Directed} (e : IsEnding d) {t : Cutting} {tile : ℕ} {b : Bounds}
                 counted_off d q not_own,
                 on c.from goes there out,
                 sum_below-none term (length links) (λ j l. term_off j l (λ a moves apart _ at_j.
-                    out (subst (λ (p : Place). IsInBounds b p) (sym at_j
+                    out (subst (λ p. IsInBounds b p) (sym at_j
                     ∙ ap (follow d q) (same a moves apart)) (in_place s j l)))),
               )
               | inl within ↦
@@ -151,7 +151,7 @@ module _ {d : Directed} (e : IsEnding d) {t : Cutting} {tile : ℕ} {b : Bounds}
                     one_term term (length links) (index_in b (follow d q c.from)) below
                         (λ n l ne. term_off n l (λ a moves apart _ at_n. ne (sym (index_in-place_in
                         b n) ∙ ap (index_in b) (sym at_n ∙ ap (follow d q) (same a moves apart))))),
-                    cond-true {A = ℕ} _ (counted d (R (place_in b (index_in b (follow d q c.from)))) q) 0 leads,
+                    cond-true _ (counted d (R (place_in b (index_in b (follow d q c.from)))) q) 0 leads,
                     counted_on is
                         (at _ c.from (sym back) (less k c.from (omega (arith, c.before)) far)),
                   )
@@ -230,9 +230,9 @@ module _ {d : Directed} (e : IsEnding d) {t : Cutting} {tile : ℕ} {b : Bounds}
 
   -- Without inflows, totals count the cells whose flow paths reach a cell without leaving the tile,
   -- itself included.
-  pub own_totals : (weights : List ℕ) → AreTileWeights d b weights →
+  pub own_totals : {weights : List ℕ} → AreTileWeights d b weights →
       AreTotals links weights (λ i. all_drained_inside d t (place_in b i))
-  own_totals weights weighed = record {
+  own_totals weighed = record {
     each = λ i h. omega (
       arith,
       weighed.each i (omega (arith, h, s.made.size)),

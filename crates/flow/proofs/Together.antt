@@ -17,9 +17,9 @@ use Rattle.flow.specs.Counts.{IsMapOf, IsValueAt}
 use Rattle.flow.proofs.Coded.{IsCoded, coded_from_some}
 use Rattle.flow.proofs.Reaching.{IsEnding}
 
-pub directed_same : (d : Drained) (t : Cutting) (codes : List (Option ℕ)) → Cuts t d.terrain →
+pub directed_same : (d : Drained) (t : Cutting) {codes : List (Option ℕ)} → Cuts t d.terrain →
     codes ≡ d.codes → directed_on t codes ≡ directed_of d
-directed_same d t codes cuts e =
+directed_same d t {codes} cuts e =
     ap (λ n. make_directed n t.rows codes) cuts.0 ∙ ap (λ n. make_directed d.terrain.cols n codes)
     cuts.1 ∙ ap (make_directed d.terrain.cols d.terrain.rows) e
 
@@ -28,7 +28,7 @@ pub grid_flow : {d : Drained} (t : Cutting) {codes : List (Option ℕ)} → IsDr
 grid_flow {d} t {codes} draining cuts e = record {
   size = ap length e ∙ draining.codes_size
       ∙ sym (ap (λ n. n * t.rows) cuts.0 ∙ ap (λ n. d.terrain.cols * n) cuts.1);
-  ends = subst (λ (x : Directed). AllFlowEnds x) (sym (directed_same d t codes cuts e))
+  ends = subst (λ x. AllFlowEnds x) (sym (directed_same d t cuts e))
       (falling_ends d draining);
 }
 
@@ -59,11 +59,11 @@ jobs_gave P (Err e) Q same made len given = len
 
 -- A list with each data cell's value at its place, and `None` at NODATA, is the map of these values
 -- for the drained terrain.
-pub whole_map : (d : Drained) (t : Cutting) (codes : List (Option ℕ)) →
+pub whole_map : (d : Drained) (t : Cutting) {codes : List (Option ℕ)} →
     Cuts t d.terrain → codes ≡ d.codes → (value : Directed → Place → ℕ) (whole : List (Option ℕ)) →
     length whole ≡ t.cols * t.rows →
     ((p : Place) → IsWithin t p → IsValueAt (directed_on t codes)
     (value (directed_on t codes)) p (entry_at t.cols t.rows whole p)) →
     IsMapOf (directed_of d) (value (directed_of d)) whole
-whole_map d t codes cuts same value whole size each = subst (λ (x : Directed). IsMapOf x
-    (value x) whole) (directed_same d t codes cuts same) (record { size = size; each = each })
+whole_map d t cuts same value whole size each = subst (λ x. IsMapOf x
+    (value x) whole) (directed_same d t cuts same) (record { size = size; each = each })

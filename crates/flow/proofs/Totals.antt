@@ -8,7 +8,7 @@ use Rattle.flow.proofs.Ending.{IsStop, early_end}
 
 -- n if node j is a donor of node i, that is another node linked to i; else 0.
 abbrev pub upstream : List ℕ → ℕ → ℕ → ℕ → ℕ
-upstream links j i n = cond {A = ℕ} (leads_to links j i) n 0
+upstream links j i n = cond (leads_to links j i) n 0
 
 pub leads_parts : (links : List ℕ) (j i : ℕ) → leads_to links j i ≡ true → (next_node links j ≡ i)
     × (j ≢ i)
@@ -19,9 +19,9 @@ pub leads_from : (links : List ℕ) (j : ℕ) {i : ℕ} → next_node links j �
     leads_to links j i ≡ true
 leads_from links j e ne = and_from _ _ (eq-eqb _ _ e) (not_from_false _ (ne_eqb _ _ ne))
 
-pub leads_end : (links : List ℕ) (node i : ℕ) → next_node links node ≡ node →
+pub leads_end : (links : List ℕ) {node : ℕ} (i : ℕ) → next_node links node ≡ node →
     leads_to links node i ≡ false
-leads_end links node i e =
+leads_end links {node} i e =
     false_from_ne_true _ (λ y. (let w = leads_parts links node i y in w.1 (sym e ∙ w.0)))
 
 pub leads_self : (links : List ℕ) (i : ℕ) → leads_to links i i ≡ false
@@ -71,8 +71,8 @@ sums_le links i f g le =
     upstream links j i (g j)) (length links)
     (λ j l. elim (cases_Bool (leads_to links j i)) [
       | inl on ↦
-          omega (arith, cond-true {A = ℕ} _ (f j) 0 on, cond-true {A = ℕ} _ (g j) 0 on, le j l on)
-      | inr off ↦ omega (arith, cond-false {A = ℕ} _ (f j) 0 off, cond-false {A = ℕ} _ (g j) 0 off)
+          omega (arith, cond-true _ (f j) 0 on, cond-true _ (g j) 0 on, le j l on)
+      | inr off ↦ omega (arith, cond-false _ (f j) 0 off, cond-false _ (g j) 0 off)
     ])
 
 pub sums_same : (links : List ℕ) (i : ℕ) (f g : ℕ → ℕ) → ((j : ℕ) → j < length links →
@@ -85,20 +85,20 @@ sums_same links i f g same = omega (
 
 -- Let f be at most w plus the sum of f over the donors, and g at least w plus the sum of g over the
 -- donors, at each node. Then f ≤ g at each node.
-pub totals_le : (links : List ℕ) → AreStreams links → (w f g : ℕ → ℕ) →
+pub totals_le : {links : List ℕ} → AreStreams links → (w f g : ℕ → ℕ) →
     ((i : ℕ) → i < length links → f i ≤ w i + upstream_sum links f i) →
     ((i : ℕ) → i < length links → w i + upstream_sum links g i ≤ g i) → (i : ℕ) → i < length links →
     f i ≤ g i
-totals_le links streams w f g low high = each_downstream streams (λ _ i. f i ≤ g i)
+totals_le {links} streams w f g low high = each_downstream streams (λ _ i. f i ≤ g i)
     (λ _ i h before. omega (arith, low i h, high i h, sums_le links i f g before))
 
 -- f of each node is the node's weight plus the sum of f over its donors.
 pub record AreTotals (links weights : List ℕ) (f : ℕ → ℕ) : Type 0 where
   pub each : (i : ℕ) → i < length links → f i ≡ get_or weights i 0 + upstream_sum links f i
 
-pub totals_are : (links weights : List ℕ) → AreStreams links →
+pub totals_are : {links : List ℕ} (weights : List ℕ) → AreStreams links →
     AreTotals links weights (total links weights)
-totals_are links weights streams = record {
+totals_are {links} weights streams = record {
   each = each_downstream streams (λ k i. total_within links weights k i
       ≡ total_within links weights (suc k) i)
       (λ k i h before. omega (
@@ -112,15 +112,15 @@ pub total_is : {links weights : List ℕ} {f : ℕ → ℕ} → AreStreams links
     (i : ℕ) → i < length links → total links weights i ≡ f i
 total_is {links} {weights} {f} streams are i h = omega (
   arith,
-  totals_le links streams (λ j.
+  totals_le streams (λ j.
       get_or weights j 0) f (total links weights) (λ j l. omega (arith, are.each j l)) (λ j l.
-      omega (arith, (totals_are links weights streams).each j l)) i h,
-  totals_le links streams (λ j. get_or weights j 0) (total links weights) f (λ j l.
-      omega (arith, (totals_are links weights streams).each j l)) (λ j l.
+      omega (arith, (totals_are weights streams).each j l)) i h,
+  totals_le streams (λ j. get_or weights j 0) (total links weights) f (λ j l.
+      omega (arith, (totals_are weights streams).each j l)) (λ j l.
       omega (arith, are.each j l)) i h,
 )
 
-cond_add : (b : Bool) (m n : ℕ) → cond {A = ℕ} b (m + n) 0 ≡ cond {A = ℕ} b m 0 + cond {A = ℕ} b n 0
+cond_add : (b : Bool) (m n : ℕ) → cond b (m + n) 0 ≡ cond b m 0 + cond b n 0
 cond_add true m n = refl
 cond_add false m n = refl
 
@@ -133,8 +133,8 @@ totals_add links v w both streams sum =
       each = λ i h. omega (
         arith,
         sum i h,
-        (totals_are links v streams).each i h,
-        (totals_are links w streams).each i h,
+        (totals_are v streams).each i h,
+        (totals_are w streams).each i h,
         sum_below-same (λ j. upstream links j i (total links v j + total links w j))
             (λ j. upstream links j i (total links v j)
             + upstream links j i (total links w j)) (length links)

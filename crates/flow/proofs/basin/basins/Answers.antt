@@ -48,8 +48,8 @@ returns-clause-values g c =
     IfOk-weaker c.number_cells.result (λ (v : Vec (Option ℕ) Global).
     IsMapOf d (end_number d (outlet_numbers c.in_ok-numbers.numbers)) v.items)
     (λ (v : Vec (Option ℕ) Global). AreBasins (directed_of c.args.d.now) v.items)
-    (λ v made. subst (λ (x : Directed). AreBasins x v.items)
-    (directed_same c.args.d.now t codes c.requires c.codes-codes.ensures.value)
-    (subst (λ (l : List (Option ℕ)). IsMapOf d (end_number d (outlet_numbers l)) v.items)
+    (λ v made. subst (λ x. AreBasins x v.items)
+    (directed_same c.args.d.now t c.requires c.codes-codes.ensures.value)
+    (subst (λ l. IsMapOf d (end_number d (outlet_numbers l)) v.items)
     c.in_ok-numbers.ensures made))
     c.number_cells.ensures.values

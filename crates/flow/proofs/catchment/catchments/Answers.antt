@@ -8,7 +8,7 @@ use Rattle.flow.specs.CutCodes.{gauge_numbers}
 use Rattle.flow.specs.Whole.{IsGridFlow, make_directed, directed_on}
 use Rattle.flow.specs.Numbering.{end_number}
 use Rattle.flow.specs.Counts.{IsMapOf}
-use Rattle.flow.proofs.CutPaths.{cut_ends, catchments_are, position_below}
+use Rattle.flow.proofs.CutPaths.{cut_ends, catchments_are, position_below, or_zero}
 use Rattle.flow.proofs.GaugeFaults.{all_sound, few_gauges, have_codes_in}
 use Rattle.flow.proofs.Reaching.{ending_of}
 use Rattle.flow.proofs.Together.{directed_same, grid_flow}
@@ -53,7 +53,7 @@ pub number_cells-requires-clause-few : goal.number_cells-requires-clause-few
 number_cells-requires-clause-few g c κs within i below =
     let few = few_gauges c.codes.ensures.draining c.args.gauges.now
     (sym c.first_fault.ensures ∙ c.in_default.is) in
-    let number = ap (λ (o : Option ℕ). unwrap_or o 0) (c.in_ok-numbers.ensures.numbers i) in
+    let number = ap or_zero (c.in_ok-numbers.ensures.numbers i) in
     omega (
       arith,
       number,
@@ -72,9 +72,9 @@ returns-clause-values g c =
     (sym c.first_fault.ensures ∙ c.in_default.is) t c.requires c.codes.ensures.value in
     let n = gauge_numbers c.in_ok-numbers.numbers.cells c.in_ok-numbers.numbers.numbers in
     let values = c.in_ok-values.values.items in
-    (rw (directed_same c.args.d.now t codes c.requires c.codes.ensures.value) at (
+    (rw (directed_same c.args.d.now t c.requires c.codes.ensures.value) at (
     catchments_are (ending_of d flow.ends c.in_ok-codes.ensures.cutting
     (refl, refl)) coded c.in_ok-codes.ensures.cut n
-    (λ i. ap (λ (o : Option ℕ). unwrap_or o 0) (c.in_ok-numbers.ensures.numbers i)) values
+    (λ i. ap or_zero (c.in_ok-numbers.ensures.numbers i))
     (rw c.deref.ensures.value at c.in_ok-values.ensures.values)
     ))

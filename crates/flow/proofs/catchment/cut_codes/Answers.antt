@@ -17,6 +17,6 @@ loop-gauge-preserved c =
     cut_next gauges k
     (make_place 0 0) c.requires.size below
     (gauge_inside t.cols t.rows c.args.codes.now gauges k (make_place 0 0) below c.requires.coded)
-    (ap (λ (i : ℕ). set c.loop-gauge.cut.items i (Some c.outlet.result)) index
-    ∙ ap (λ (x : ℕ). set c.loop-gauge.cut.items (index_of t.cols g) (Some x)) c.outlet.ensures)
+    (ap (λ i. set c.loop-gauge.cut.items i (Some c.outlet.result)) index
+    ∙ ap (λ x. set c.loop-gauge.cut.items (index_of t.cols g) (Some x)) c.outlet.ensures)
     c.loop-gauge.invariant

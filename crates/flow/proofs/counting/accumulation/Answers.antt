@@ -33,7 +33,7 @@ returns-clause-values g c =
     IfOk-weaker c.map_tiles.result (λ (v : Vec (Option ℕ) Global).
     IsMadeMap t (IsCountAt t c.in_ok-flows.flows.items c.in_ok-inflows.inflows) v.items)
     (λ (v : Vec (Option ℕ) Global). AreAccumulations (directed_of c.args.d.now) v.items)
-    (λ v made. whole_map c.args.d.now t codes c.requires c.codes.ensures.value accumulation v.items
+    (λ v made. whole_map c.args.d.now t c.requires c.codes.ensures.value accumulation v.items
     made.size (λ p i. entry_of_map t (IsCountAt t c.in_ok-flows.flows.items c.in_ok-inflows.inflows)
     v.items made p i codes counting))
     c.map_tiles.ensures.made

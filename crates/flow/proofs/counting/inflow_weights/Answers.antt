@@ -24,7 +24,7 @@ returns c =
     ++ drop (length c.add_to.new.weights) c.in_ok-weights.weights.items) ≡ c.add_to.new.weights =
     take_at c.add_to.new.weights (drop (length c.add_to.new.weights) c.in_ok-weights.weights.items)
     c.in_ok-weights.weights.len (c.add_to.ensures.size ∙ c.deref_mut.ensures.len) in
-    subst (λ (w : List ℕ). AreInflowWeights c.args.inflows.now b w) (sym same) (record {
+    subst (λ w. AreInflowWeights c.args.inflows.now b w) (sym same) (record {
       size = c.add_to.ensures.size ∙ ap length c.deref_mut.ensures.value ∙ c.in_ok-weights.ensures.size
           ∙ c.requires.size;
       each = λ p h. omega (

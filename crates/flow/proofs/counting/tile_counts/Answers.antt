@@ -38,7 +38,7 @@ totals_of_few-requires-clause-fits c = λ i h.
       arith,
       c.requires.countable.totals_fit c.in_ok-weights.weights.items c.in_ok-weights.ensures i
           (omega (arith, h, c.requires.countable.linked, ap length c.links.ensures)),
-      ap (λ (l : List ℕ). total l c.in_ok-weights.weights.items i) c.links.ensures,
+      ap (λ l. total l c.in_ok-weights.weights.items i) c.links.ensures,
     )
 
 pub counts-requires-clause-totals : goal.counts-requires-clause-totals

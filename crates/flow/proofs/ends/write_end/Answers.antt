@@ -13,7 +13,7 @@ path-preserved g c =
       arith,
       e,
       c.requires.last,
-      end-inside links c.requires.streams c.args.from c.requires.inside,
+      end-inside c.requires.streams c.args.from c.requires.inside,
       c.requires.few,
     ) in
     record {
@@ -21,11 +21,11 @@ path-preserved g c =
           known_more _ _ _ _ c.path.invariant.found c.path.invariant.inside c.path.invariant.last;
       inside = omega (arith, c.next-node.ensures, c.requires.streams.inside c.path.node c.path.invariant.inside);
       last = c.path.invariant.last ∙ sym (ap (end_of links) c.next-node.ensures
-          ∙ end-onward links c.requires.streams c.path.node c.path.invariant.inside);
+          ∙ end-onward c.requires.streams c.path.node c.path.invariant.inside);
       kept = λ i k.
           known_still c.path.ends c.path.node c.args.last at ne i (c.path.invariant.kept i k);
       known = inr (elim c.path.invariant.known [
-        | inl b ↦ subst (λ (n : ℕ). IsKnown (set c.path.ends c.path.node c.args.last) n) b
+        | inl b ↦ subst (λ n. IsKnown (set c.path.ends c.path.node c.args.last) n) b
             (known_same c.path.ends c.path.node c.args.last at ne)
         | inr k ↦ known_still c.path.ends c.path.node c.args.last at ne c.args.from k
       ]);
@@ -38,12 +38,12 @@ path-smaller g c =
       arith,
       e,
       c.requires.last,
-      end-inside links c.requires.streams c.args.from c.requires.inside,
+      end-inside c.requires.streams c.args.from c.requires.inside,
       c.requires.few,
     ) in
     omega (
       arith,
       ap (writes_left links (set c.path.ends c.path.node c.args.last)) c.next-node.ensures,
-      writes_fall links c.path.ends c.path.node c.args.last c.requires.streams c.path.invariant.found
+      writes_fall c.path.node c.args.last c.requires.streams c.path.invariant.found
           c.path.invariant.inside c.path-test.true ne,
     )

@@ -13,7 +13,7 @@ pub add_at-requires-clause-fits : goal.add_at-requires-clause-fits
 add_at-requires-clause-fits c =
     adds_fit c.bounds-bounds.ensures.lawful c.args.listed.now c.args.tile
     c.requires.tile c.args.weights.now c.bounds-bounds.ensures.value c.loop-side.weights c.loop-side.side
-    (c.side_cell.ensures.value ∙ ap (λ (l : Bounds).
+    (c.side_cell.ensures.value ∙ ap (λ l.
     side_cell l c.bounds-bounds.result c.loop-side.side) c.bounds-largest.ensures.value)
     (ap (λ n. get_or c.args.listed.now (n + c.loop-side.side) 0)
     c.rim_numbers_of-first.ensures.first)
@@ -27,7 +27,7 @@ loop-side-preserved c = record {
   each = adds_more c.bounds-bounds.ensures.lawful c.args.listed.now c.args.tile
       c.requires.tile c.args.weights.now c.bounds-bounds.ensures.value c.loop-side.weights c.add_at.new.weights
       c.loop-side.side
-      (c.side_cell.ensures.value ∙ ap (λ (l : Bounds).
+      (c.side_cell.ensures.value ∙ ap (λ l.
       side_cell l c.bounds-bounds.result c.loop-side.side) c.bounds-largest.ensures.value)
       (ap (λ n. get_or c.args.listed.now (n + c.loop-side.side) 0)
       c.rim_numbers_of-first.ensures.first)

@@ -12,7 +12,7 @@ overflow_add-weights c =
     omega (
       arith,
       c.requires.fits c.in-Some.place inside,
-      ap (λ (o : Option Place). adds_at o c.args.amount c.in-Some.place) c.in-Some.is,
+      ap (λ o. adds_at o c.args.amount c.in-Some.place) c.in-Some.is,
       own_adds c.in-Some.place c.args.amount,
       ap (λ n. get_or c.args.weights.now n 0) c.index_of.ensures.value,
     ) in

@@ -9,8 +9,8 @@ pub overflow_add-listed : goal.overflow_add-listed
 overflow_add-listed c =
     let number = c.rim_number.result in
     let sent : sent_to c.args.tiling.now number c.args.target c.args.amount ≡ c.args.amount =
-    ap (λ (o : Option Place). sent_to c.args.tiling.now number o c.args.amount) c.in-Some.is
-    ∙ cond-true {A = ℕ} _ c.args.amount 0 (eq-eqb _ number (sym c.rim_number.ensures.value)) in
+    ap (λ o. sent_to c.args.tiling.now number o c.args.amount) c.in-Some.is
+    ∙ cond-true _ c.args.amount 0 (eq-eqb _ number (sym c.rim_number.ensures.value)) in
     let fits : get_or c.args.listed.now number 0 + c.args.amount < 2 ^ 32 =
     omega (arith, sent, c.requires.fits number c.rim_number.ensures.below) in
     search rules

@@ -2,48 +2,35 @@ use Rattle.std.proofs.Common.{◌≡◌, ◌+◌, ◌^◌, ◌<◌, sym, ap, ◌
 use Rattle.terrain.specs.declared.place.Place.{Place}
 use Rattle.tiles.specs.Cutting.{IsWithin}
 use Rattle.tiles.specs.RimNumbers.{rim_place}
-use Rattle.flow.specs.Inflows.{rim_weight, weight_or, through_by}
-use Rattle.flow.proofs.RimFlows.{target_listed, targets_size, target_from, within_of}
+use Rattle.flow.specs.Inflows.{rim_weight, through_by}
+use Rattle.flow.proofs.RimFlows.{target_is, targets_size, target_from, within_of}
 use Rattle.flow.proofs.RimTotals.{weight_few}
+use Rattle.flow.proofs.CutPaths.{or_zero}
 use Rattle.flow.proofs.inflows.weight_of.Goals as goal
 
 pub bounds : goal.bounds
 bounds c = omega (arith, c.requires.number, targets_size _ _ c.requires.targets)
 
 pub returns-in_default : goal.returns-in_default
-returns-in_default c = ap (weight_or
-    (through_by c.args.tiling.now c.args.flows.now (rim_place c.args.tiling.now c.args.number)))
-    (sym c.in_default.is ∙ (target_listed _ _ c.requires.targets c.args.number c.requires.number))
+returns-in_default c = rw (target_is _ _ c.requires.targets c.args.number c.requires.number c.in_default.is)
 
 pub through_at-requires-clause-within : goal.through_at-requires-clause-within
 through_at-requires-clause-within c =
     let x = target_from c.requires.flows.1 c.args.number c.in-Some.field-0
-    (sym (target_listed _ _ c.requires.targets c.args.number c.requires.number) ∙ c.in-Some.is) in
+    (target_is _ _ c.requires.targets c.args.number c.requires.number c.in-Some.is) in
     rw c.rim_place.ensures (within_of c.requires.flows.1 x.crosses.coded)
+
+pub returns : goal.returns
+returns c = rw (target_is _ _ c.requires.targets c.args.number c.requires.number c.in-Some.is) (ap (λ n. n + 1)
+    (c.unwrap_or.ensures ∙ ap or_zero (c.through_at.ensures
+    ∙ ap (through_by c.args.tiling.now c.args.flows.now) c.rim_place.ensures)))
 
 pub overflow_add-result : goal.overflow_add-result
 overflow_add-result c =
-    let weight : rim_weight c.args.tiling.now c.args.flows.now c.args.number ≡ c.unwrap_or.result
-    + 1 =
-    ap (weight_or
-    (through_by c.args.tiling.now c.args.flows.now (rim_place c.args.tiling.now c.args.number)))
-    (sym (target_listed _ _ c.requires.targets c.args.number c.requires.number) ∙ c.in-Some.is)
-    ∙ sym (ap
-    (λ n. n + 1) (c.unwrap_or.ensures ∙ ap (λ (o : Option ℕ). unwrap_or o 0) (c.through_at.ensures
+    let weight : c.unwrap_or.result + 1 ≡ rim_weight c.args.tiling.now c.args.flows.now c.args.number =
+    rw (target_is _ _ c.requires.targets c.args.number c.requires.number c.in-Some.is) (ap (λ n. n + 1)
+    (c.unwrap_or.ensures ∙ ap or_zero (c.through_at.ensures
     ∙ ap (through_by c.args.tiling.now c.args.flows.now) c.rim_place.ensures))) in
-    let fits : c.unwrap_or.result + 1 < 2 ^ 32 = omega (
-      arith,
-      weight,
-      weight_few c.requires.flows.1
-          c.requires.flows.2 c.args.number,
-    ) in
+    let fits : c.unwrap_or.result + 1 < 2 ^ 32 =
+    omega (arith, weight, weight_few c.requires.flows.1 c.requires.flows.2 c.args.number) in
     search rules
-
-pub returns : goal.returns
-returns c =
-    sym (ap (weight_or
-    (through_by c.args.tiling.now c.args.flows.now (rim_place c.args.tiling.now c.args.number)))
-    (sym (target_listed _ _ c.requires.targets c.args.number c.requires.number) ∙ c.in-Some.is)
-    ∙ sym (ap
-    (λ n. n + 1) (c.unwrap_or.ensures ∙ ap (λ (o : Option ℕ). unwrap_or o 0) (c.through_at.ensures
-    ∙ ap (through_by c.args.tiling.now c.args.flows.now) c.rim_place.ensures))))

@@ -1,8 +1,5 @@
-use Rattle.std.proofs.Common.{Option, get_or, sym, ap, ◌∙◌, arith}
-use Rattle.std.specs.Option.{option_and_then}
-use Rattle.terrain.specs.declared.place.Place.{Place}
-use Rattle.flow.specs.RimGraph.{target_by, exit_by}
-use Rattle.flow.proofs.RimFlows.{target_listed, targets_size, target_within}
+use Rattle.std.proofs.Common.{get_or, arith}
+use Rattle.flow.proofs.RimFlows.{target_is, targets_size, target_within}
 use Rattle.flow.proofs.outlets.outlet_of.Goals as goal
 
 pub bounds : goal.bounds
@@ -16,35 +13,23 @@ bounds-2 g c = omega (
 )
 
 pub returns-in_default : goal.returns-in_default
-returns-in_default g c =
-    ap (λ (o : Option Place). option_and_then
-    (λ (y : Place). option_and_then (λ q. exit_by c.args.tiling.now (g.F.ExitList.flows c.args.flows.now) q)
-    (target_by c.args.tiling.now (g.F.ExitList.flows c.args.flows.now) (get_or c.args.ends.now c.args.number 0))) o)
-    (sym c.in_default.is ∙ (target_listed _ _ c.requires.targets c.args.number c.requires.number))
+returns-in_default g c = rw (target_is _ _ c.requires.targets c.args.number c.requires.number c.in_default.is)
 
 pub returns-in_default-targets : goal.returns-in_default-targets
-returns-in_default-targets g c =
-    sym (ap (λ (o : Option Place). option_and_then
-    (λ (y : Place). option_and_then (λ q. exit_by c.args.tiling.now (g.F.ExitList.flows c.args.flows.now) q)
-    (target_by c.args.tiling.now (g.F.ExitList.flows c.args.flows.now) (get_or c.args.ends.now c.args.number 0))) o)
-    (sym (target_listed _ _ c.requires.targets c.args.number c.requires.number) ∙ c.in-Some.is)
-    ∙ ap (λ (o : Option Place). option_and_then (λ q. exit_by c.args.tiling.now (g.F.ExitList.flows c.args.flows.now) q)
-    o) (sym (target_listed _ _ c.requires.targets (get_or c.args.ends.now c.args.number 0)
-    (c.requires.inside c.args.number c.requires.number)) ∙ c.in_default-targets.is))
+returns-in_default-targets g c = rw (
+  target_is _ _ c.requires.targets c.args.number c.requires.number c.in-Some.is,
+  target_is _ _ c.requires.targets (get_or c.args.ends.now c.args.number 0)
+      (c.requires.inside c.args.number c.requires.number) c.in_default-targets.is,
+)
 
 pub exit_of-requires-clause-within : goal.exit_of-requires-clause-within
-exit_of-requires-clause-within g c =
-    (target_within c.requires.flows.1
-    _ c.in-Some-targets.entry (sym (target_listed _ _ c.requires.targets (get_or c.args.ends.now
-    c.args.number 0) (c.requires.inside c.args.number c.requires.number)) ∙ c.in-Some-targets.is)).1
+exit_of-requires-clause-within g c = (target_within c.requires.flows.1 _ c.in-Some-targets.entry
+    (target_is _ _ c.requires.targets (get_or c.args.ends.now c.args.number 0)
+    (c.requires.inside c.args.number c.requires.number) c.in-Some-targets.is)).1
 
 pub returns : goal.returns
-returns g c =
-    c.exit_of.ensures
-    ∙ sym (ap (λ (o : Option Place). option_and_then
-    (λ (y : Place). option_and_then (λ q. exit_by c.args.tiling.now (g.F.ExitList.flows c.args.flows.now) q)
-    (target_by c.args.tiling.now (g.F.ExitList.flows c.args.flows.now) (get_or c.args.ends.now c.args.number 0))) o)
-    (sym (target_listed _ _ c.requires.targets c.args.number c.requires.number) ∙ c.in-Some.is)
-    ∙ ap (λ (o : Option Place). option_and_then (λ q. exit_by c.args.tiling.now (g.F.ExitList.flows c.args.flows.now) q)
-    o) (sym (target_listed _ _ c.requires.targets (get_or c.args.ends.now c.args.number 0)
-    (c.requires.inside c.args.number c.requires.number)) ∙ c.in-Some-targets.is))
+returns g c = rw (
+  target_is _ _ c.requires.targets c.args.number c.requires.number c.in-Some.is,
+  target_is _ _ c.requires.targets (get_or c.args.ends.now c.args.number 0)
+      (c.requires.inside c.args.number c.requires.number) c.in-Some-targets.is,
+) c.exit_of.ensures

@@ -32,5 +32,5 @@ returns-then-is_place c =
     ap (λ xs. get_or xs side 0) c.requires.rim
     ∙ get_or-map-range_with_len (λ i. end_of c.args.links.now (index_in b (side_place b b i))) 0
     (stride b) side side 0 below (omega arith)
-    ∙ ap (λ (p : Place). end_of c.args.links.now (index_in b p)) (sym c.side_place.ensures
+    ∙ ap (λ p. end_of c.args.links.now (index_in b p)) (sym c.side_place.ensures
     ∙ place_is _ _ (sym c.is_place.ensures ∙ c.if-is_place.true))

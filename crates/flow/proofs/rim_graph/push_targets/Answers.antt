@@ -40,9 +40,9 @@ loop-side-preserved g c =
     ) in
     let target : c.target_of.result ≡ target_by t (g.F.ExitList.flows c.args.flows.now) (first + c.loop-side.side) =
     c.target_of.ensures
-    ∙ ap (λ (l : Bounds). target_in l c.of_tile-flow.result.now c.loop-side.side) c.bounds-largest.ensures.value
+    ∙ ap (λ l. target_in l c.of_tile-flow.result.now c.loop-side.side) c.bounds-largest.ensures.value
     ∙ ap (λ (f : Flow). target_in (bounds_of t 0) f c.loop-side.side) flow.2
     ∙ sym (target_in_tile t flows c.args.tile c.loop-side.side flow.0 below flow.1) in
     mapped_all (target_by t flows)
-    (mapped_pushed (target_by t flows) (first + c.loop-side.side)
-    _ _ _ c.loop-side.invariant target c.in_ok-push.ensures.items) (omega arith)
+    (mapped_pushed (target_by t flows) (first + c.loop-side.side) c.loop-side.invariant target
+    c.in_ok-push.ensures.items) (omega arith)

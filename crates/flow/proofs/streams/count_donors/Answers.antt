@@ -44,14 +44,14 @@ loop-node-preserved g c =
             c.requires.streams.inside node (omega (arith, c.loop-node-test.true, c.count-node-end.ensures)),
             c.loop-node.invariant.size,
           )),
-          ap (λ b. cond {A = ℕ} b 1 0) (leads_test links node next i c.next-next.ensures w.if-next-node.true),
+          ap (λ b. cond {A = ℕ} b 1 0) (leads_test links node i c.next-next.ensures w.if-next-node.true),
           c.loop-node.invariant.each i l,
           sum_more (donor links i) node,
         )
         | else-next-node w ↦ λ i l. omega (
           arith,
           ap (λ (xs : List ℕ). get_or xs i 0) w.counts-is,
-          cond-false {A = ℕ} _ 1 0 (leads_end links node i (sym c.next-next.ensures ∙ w.if-next-node.false)),
+          cond-false {A = ℕ} _ 1 0 (leads_end links i (sym c.next-next.ensures ∙ w.if-next-node.false)),
           c.loop-node.invariant.each i l,
           sum_more (donor links i) node,
         )

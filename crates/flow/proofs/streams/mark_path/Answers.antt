@@ -5,7 +5,7 @@ use Rattle.flow.proofs.streams.mark_path.Goals as goal
 
 pub path-init : goal.path-init
 path-init g c = record {
-  marks = marks_of _ _ 0 c.args.from c.requires.marks;
+  marks = marks_of c.args.from c.requires.marks;
   inside = c.requires.inside;
   few = omega arith;
   kept = λ i k. k;
@@ -17,7 +17,7 @@ path-preserved g c =
     let i = c.path.invariant in
     let entry = entry_new c.requires.few i.marks i.inside c.path-test.true in
     record {
-      marks = mark_on c.requires.few i.marks i.inside entry c.path-test.true c.next-next.result
+      marks = mark_on c.requires.few i.marks i.inside entry c.path-test.true
           c.next-next.ensures c.if-next-node.false;
       inside = omega (arith, c.next-next.ensures, c.requires.streams.inside c.path.node i.inside);
       few = omega arith;
@@ -30,7 +30,7 @@ path-smaller g c =
     omega (
       arith,
       ap (moves_left (g.L.Links.list c.args.links.now)) c.next-next.ensures,
-      moves_fall _ c.requires.streams c.path.node c.path.invariant.inside
+      moves_fall c.requires.streams c.path.node c.path.invariant.inside
           (λ e. c.if-next-node.false (c.next-next.ensures ∙ e)),
     )
 

@@ -28,17 +28,17 @@ totals-requires-clause-fits c =
     let s = lists_seen c.in_ok-exits.ensures c.requires c.bounds.ensures.lawful in
     rw c.links.ensures (rw (c.in_ok-weights.ensures ∙ ap weights_by c.codes.ensures) (fits s))
 
-summed_by : (f : Flow) (links codes_weights totals : List ℕ) → links ≡ links_by f.bounds f.codes →
+summed_by : (f : Flow) {links codes_weights totals : List ℕ} → links ≡ links_by f.bounds f.codes →
     codes_weights ≡ weights_by f.codes → AreSums links codes_weights totals →
     AreSums (links_by f.bounds f.codes) (weights_by f.codes) totals
-summed_by f links weights totals made weighed summed =
+summed_by f made weighed summed =
     rw weighed at (rw made at summed)
 
 pub invariant_of-result : goal.invariant_of-result
 invariant_of-result c =
     let s = lists_seen c.in_ok-exits.ensures c.requires c.bounds.ensures.lawful in (
       c.in_ok-totals.ensures.size ∙ ap length c.links.ensures ∙ sizes s,
-      summed_by c.in_ok-exits.exits _ _ _ c.links.ensures (c.in_ok-weights.ensures ∙ ap weights_by c.codes.ensures)
+      summed_by c.in_ok-exits.exits c.links.ensures (c.in_ok-weights.ensures ∙ ap weights_by c.codes.ensures)
           c.in_ok-totals.ensures,
     )
 
@@ -51,7 +51,7 @@ returns c =
     record {
       exits = exits_kept (counts_by f.codes (slice_index totals))
           c.in_ok-exits.ensures;
-      counts = counts_are s (summed_by f _ _ _ c.links.ensures
+      counts = counts_are s (summed_by f c.links.ensures
           (c.in_ok-weights.ensures ∙ ap weights_by c.codes.ensures) c.in_ok-totals.ensures) (with_counts f totals)
           refl refl;
     }

@@ -28,7 +28,7 @@ invariant_of-result c =
     let s = lists_made c.requires c.bounds-bounds.ensures.value
     c.bounds-bounds.ensures.inside c.bounds-bounds.ensures.lawful c.in_ok-cells.ensures
     c.deref.ensures.value c.in_ok-links.ensures in
-    lists_are s _ c.in_ok-rim_ends.ensures
+    lists_are s c.in_ok-rim_ends.ensures
 
 pub returns : goal.returns
 returns c =

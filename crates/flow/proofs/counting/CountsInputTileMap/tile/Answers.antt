@@ -23,7 +23,7 @@ returns c =
     let counts = c.in_ok-counts.ensures in
     let size = counts_size counts
     ∙ (m.countable.each c.args.tile flow there).size
-    ∙ ap (λ (x : Cutting). cell_count x c.args.tile) m.countable.same_cutting in
+    ∙ ap (λ x. cell_count x c.args.tile) m.countable.same_cutting in
     tile_of_entries m.tiling.now c.args.tile
     (IsCountAt m.tiling.now m.flows.items m.inflows) c.in_ok-counts.counts.items size
     (λ p i codes s. entry_counted s c.args.tile flow

@@ -55,7 +55,7 @@ send_all-requires-clause-few c k =
       arith,
       entering_few c.requires.flows.1 c.requires.flows.2 (c.deref-2.ensures.value
           ∙ c.requires.targets) c.requires.links c.in_ok-weights.ensures c.in_ok-totals.ensures k,
-      ap (λ (l : List ℕ). sum_below (entering c.args.tiling.now c.deref-2.result.now l k)
+      ap (λ l. sum_below (entering c.args.tiling.now c.deref-2.result.now l k)
           (rim_number_count c.args.tiling.now)) c.deref-3.ensures.value,
     )
 

@@ -21,24 +21,24 @@ pub number_of-requires-clause-within : goal.number_of-requires-clause-within
 number_of-requires-clause-within g c =
     (exit_placed c.args.self.now.outlets c.args.self.now.flows.items (g.N.EndNumbering.numbers
     c.args.self.now.numbers) c.args.flow.now.bounds c.in-Some.exit _ c.place_at.result
-    (c.place_at.ensures.value ∙ ap (λ (b : Bounds). place_in b c.in-Some.exit)
+    (c.place_at.ensures.value ∙ ap (λ b. place_in b c.in-Some.exit)
     c.bounds.ensures.value) c.in-Some.ensures.value c.requires.exit).within
 
 pub number_of-requires-clause-numbered : goal.number_of-requires-clause-numbered
 number_of-requires-clause-numbered g c =
     (exit_placed c.args.self.now.outlets c.args.self.now.flows.items (g.N.EndNumbering.numbers
     c.args.self.now.numbers) c.args.flow.now.bounds c.in-Some.exit _ c.place_at.result
-    (c.place_at.ensures.value ∙ ap (λ (b : Bounds). place_in b c.in-Some.exit)
+    (c.place_at.ensures.value ∙ ap (λ b. place_in b c.in-Some.exit)
     c.bounds.ensures.value) c.in-Some.ensures.value c.requires.exit).numbered
 
 pub returns : goal.returns
 returns g c =
     let m = c.args.self.now in
     c.number_of.ensures
-    ∙ ap (λ (p : Place). number_at m.outlets.cutting.cols (g.N.EndNumbering.numbers m.numbers)
+    ∙ ap (λ p. number_at m.outlets.cutting.cols (g.N.EndNumbering.numbers m.numbers)
     (listed_outlet m.outlets m.flows.items p))
     (c.place_at.ensures.value
-    ∙ ap (λ (b : Bounds). place_in b c.in-Some.exit) c.bounds.ensures.value)
+    ∙ ap (λ b. place_in b c.in-Some.exit) c.bounds.ensures.value)
     ∙ exit_number_own m.outlets m.flows.items (g.N.EndNumbering.numbers m.numbers)
     c.args.flow.now.bounds (get_or c.args.flow.now.exits c.args.index
     None) c.in-Some.ensures.value c.if-exit-index.false c.requires.exit

@@ -35,7 +35,7 @@ rim_outlets-requires-clause-inside g c =
       arith,
       ap (λ (l : List ℕ). get_or l i 0) c.deref-2.ensures.value,
       c.in_ok-ends.ensures.each i here,
-      end-inside _ (rim_streams c.requires.flows.1 made) i here,
+      end-inside (rim_streams c.requires.flows.1 made) i here,
       size,
     ))
 

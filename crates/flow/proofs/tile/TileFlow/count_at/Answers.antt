@@ -14,6 +14,6 @@ returns c =
     subst (λ (f : Flow). c.where_data.result ≡ get_or f.through c.args.index None) c.self.view_is
     (c.where_data.ensures ∙ made_at codes (λ i. get_or totals i 0 - 1) (length codes) c.args.index _ _ below below
     (c.index-codes-index.is
-    ∙ ap (λ (l : List (Option ℕ)). get_or l c.args.index c.index-codes-index.result) c.codes.ensures)
+    ∙ ap (λ l. get_or l c.args.index c.index-codes-index.result) c.codes.ensures)
     (c.saturating_sub.ensures ∙ ap (λ n. n - 1)
     (c.index.ensures ∙ get_or_default totals c.args.index c.index.result.now 0 there)))

@@ -3,4 +3,4 @@ use Rattle.flow.specs.TileFlow.{Flow, exit_in}
 use Rattle.flow.proofs.tile.TileFlow.exit.Goals as goal
 
 pub returns : goal.returns
-returns c = c.exit.ensures ∙ ap (λ (f : Flow). exit_in f c.args.place) c.self.view_is
+returns c = c.exit.ensures ∙ ap (λ f. exit_in f c.args.place) c.self.view_is

@@ -14,7 +14,7 @@ bounds-ends-index c =
     let cells = c.self.inside.codes.items in
     let links = c.self.inside.links in
     let seen = ap (λ (f : Flow). length f.exits) c.self.view_is in
-    let are = ends_seen c.self.invariant _ c.self.view_is _ c.requires.ends in
+    let are = ends_seen c.self.invariant c.self.view_is c.requires.ends in
     omega (
       arith,
       c.requires.index,
@@ -34,7 +34,7 @@ returns-clause-value c =
     let below : c.args.index < length c.self.inside.codes.items =
     omega (arith, c.requires.index, seen, exits_size b cells (ends_by links)) in
     let code = c.index.ensures ∙ get_or_default cells i c.index.result.now None below in
-    let are = ends_seen c.self.invariant _ c.self.view_is _ c.requires.ends in
+    let are = ends_seen c.self.invariant c.self.view_is c.requires.ends in
     let end : get_or c.args.ends.now c.args.index 0
     ≡ get_or (ends_by c.self.inside.links) c.args.index 0 =
     are.each i (omega (arith, below, as_many_links c.self.invariant))

@@ -5,7 +5,7 @@ use Rattle.flow.proofs.tile_links.TileLinksLinks.next.Goals as goal
 pub index-requires : goal.index-requires
 index-requires c =
     let x = c.self.inside in
-    omega (arith, moves_below x.cols x.moves.items _ c.args.node c.self.view_is c.requires, x.moves.ok.0)
+    omega (arith, moves_below x.cols x.moves.items c.args.node c.self.view_is c.requires, x.moves.ok.0)
 
 pub overflow_add-result : goal.overflow_add-result
 overflow_add-result c =
