@@ -2,15 +2,15 @@
 //!
 //! Walks raise one target after the other; a sweep raises those of all cells together. A sweep
 //! costs about the same on all ground, and less than walks unless a tile is small or in full view.
-ghost use Rattle.std.specs.Prelude.{◌≡◌, ℕ, ◌+◌, ◌*◌, ◌<◌, ◌≤◌, false, [], length, None, IfOk, OnOk, slice_index, slice_index_or};
+ghost use Rattle.std.specs.Prelude.{◌≡◌, ℕ, ◌+◌, ◌*◌, ◌<◌, ◌≤◌, false, [], length, None, OnOk, slice_index, slice_index_or};
 ghost use Rattle.terrain.specs.Neighbours.{IsInside};
 ghost use Rattle.tiles.specs.Cutting.{AreBounds, IsCutting, place_in};
 ghost use Rattle.tile_maps.specs.Maps.{IsMadeUpTo};
 ghost use Rattle.sightlines.specs.Sight.{highest_eye, place_of};
 ghost use Rattle.sight.specs.Rise.{IsRiseAt};
 ghost use Rattle.sight.specs.Lowered.{AreLow, AreLowered, IsLowered, limit_of, lowered_to};
-ghost use Rattle.sight.specs.Raising.{IsCandidate};
 
+use crate::by_place::{PlaceMap, entries};
 use crate::flagging::{SAMPLES, sample_at};
 use crate::heights::HIGHEST_TARGET;
 use crate::ranks::SweepFault;
@@ -56,6 +56,30 @@ fn place_in(bounds: Bounds, index: usize) -> Place
     Place {
         row: bounds.top + (index / cols) as u32,
         col: bounds.left + (index % cols) as u32,
+    }
+}
+
+/// Whether an observer sees a cell at some height, if no crossing is in the way.
+#[derive(Drop)]
+struct Candidates<'a, 'i> {
+    input: &'i ViewshedInput<'a>,
+    observer: &'i Observer,
+    ghost inside: { IsInside input.now.grid.now.terrain (place_of observer.now) },
+    ghost eye: { observer.now.eye ≤ highest_eye },
+}
+
+impl<'a, 'i> PlaceMap for Candidates<'a, 'i> {
+    ghost use Rattle.terrain.specs.Neighbours.{IsInside};
+    ghost use Rattle.sight.specs.Raising.{IsCandidate};
+
+    type Entry = bool;
+
+    ghost inside = { λ m. IsInside m.input.now.grid.now.terrain };
+
+    ghost has = { λ m. IsCandidate m.input.now.grid.now.terrain m.observer.now m.input.now.radius };
+
+    fn entry(&self, place: Place) -> bool {
+        is_candidate(self.input.grid, self.observer, place, self.input.radius)
     }
 }
 
@@ -129,31 +153,6 @@ impl<'a> ViewshedInput<'a> {
         true
     }
 
-    /// Returns a flag for each cell of a tile; unflagged cells are seen at no height.
-    fn candidates(
-        &self,
-        alloc: Global,
-        observer: &Observer,
-        bounds: Bounds,
-    ) -> Result<Vec<bool>, AllocError>
-        requires lawful { IsCutting self.now.tiling.now }
-        requires inside { AreBounds self.now.tiling.now bounds }
-        requires observer { IsInside self.now.grid.now.terrain (place_of observer.now) }
-        requires eye { observer.now.eye ≤ highest_eye }
-        ensures size { IfOk result (λ v. length v.items ≡ bounds.rows * bounds.cols) }
-        ensures flags { IfOk result (λ v. (k : ℕ) → k < bounds.rows * bounds.cols →
-            IsCandidate self.now.grid.now.terrain observer.now self.now.radius (place_in bounds k)
-            (slice_index_or v.items k false)) }
-    {
-        let cells = bounds.rows as usize * bounds.cols as usize;
-        let mut flags = vec![in alloc; false; cells]?;
-        for index in 0..flags.len() {
-            let place = place_in(bounds, index);
-            flags[index] = is_candidate(self.grid, observer, place, self.radius);
-        }
-        Ok(flags)
-    }
-
     /// Lowers each value of a tile by walks or sweeps, whichever are likely to be faster.
     fn lower_values(
         &self,
@@ -176,7 +175,11 @@ impl<'a> ViewshedInput<'a> {
             self.lower_by_walks(observer, bounds, values);
             return Ok(());
         }
-        let flags = self.candidates(alloc, observer, bounds)?;
+        let candidates = Candidates {
+            input: self,
+            observer,
+        };
+        let flags = entries(&candidates, alloc, bounds)?;
         let mut targets = vec![in alloc; 0; flags.len()]?;
         match self.raise_blocked(alloc, observer, bounds, &flags, &mut targets) {
             Ok(()) => {

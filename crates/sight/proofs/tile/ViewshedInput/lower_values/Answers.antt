@@ -1,5 +1,6 @@
 use Rattle.std.proofs.Common.{arith, ap, subst, ◌∙◌, ◌≡◌, ◌*◌, ◌<◌, ℕ, Bool, true, false, not, List, get_or, None}
 use Rattle.std.proofs.lemmas.List.{with_items_is}
+use Rattle.std.proofs.lemmas.Option.{slice_get-get_or}
 use Rattle.sightlines.specs.Sight.{is_open}
 use Rattle.sight.specs.Flags.{flag_at}
 use Rattle.tiles.specs.Cutting.{place_in}
@@ -21,6 +22,9 @@ returns-in-Ok c k less =
     let targets = c.raise_blocked.new.targets in
     let below : k < b.rows * b.cols = omega (arith, less, c.requires.size) in
     let at = index_in-place_in b k in
+    let made = c.in_ok-flags.ensures in
+    let candidate = made.each (place_in b k) (place_inside b k below) (rw at below) (get_or flags k false)
+    (rw at (slice_get-get_or flags k false (omega (arith, below, made.size)))) in
     let whole = with_items_is old targets
     (omega (arith, c.raise_blocked.auto.targets, c.deref_mut.ensures.len, old.ok.0)) in
     let raised : get_or flags k false ≡ true → IsRaised (λ h. not (is_open t o (place_in b k) h)) 0
@@ -36,4 +40,4 @@ returns-in-Ok c k less =
     (get_or c.args.values.now k None)) (c.deref-in-Ok-2.ensures.value ∙ whole) in
     swept_lowered t o self.radius (place_in b k) (get_or flags k false) (get_or targets k 0)
     (get_or c.args.values.now k None) (get_or c.lower_to.new.values k None) (c.requires.low k)
-    (c.in_ok-flags.ensures.flags k below) raised new
+    candidate raised new
