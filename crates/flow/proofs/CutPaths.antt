@@ -120,7 +120,8 @@ position_below p i (x ∷ xs) = elim (cases_Bool (p x)) [
       or_zero (cond-true (p x) (Some (suc i)) _ is) in omega (arith, e))
   | inr isnt ↦
       let e : unwrap_or (position_from p (suc i) (x ∷ xs)) 0
-      ≡ unwrap_or (position_from p (suc i + 1) xs) 0 = ap or_zero (cond-false (p x) (Some (suc i)) (position_from p (suc i + 1) xs) isnt) in
+      ≡ unwrap_or (position_from p (suc i + 1) xs) 0 = ap or_zero
+      (cond-false (p x) (Some (suc i)) (position_from p (suc i + 1) xs) isnt) in
       let z : suc i + 1 ≡ suc (suc i) = omega arith in
       omega
       (arith, e, ap (λ (k : ℕ). unwrap_or (position_from p k xs) 0) z, position_below p (suc i) xs)
