@@ -157,7 +157,7 @@ def run_all(jobs: Sequence[Job], program: Program, caller: Caller) -> None:
             return run_by_parts(job, raster, program, caller)
     if job.around is not None:
         raster = raster_around(job, raster, job.around, program, caller)
-    terrain = raster.read()
+    terrain = raster.read(cure="" if job.map in SIGHT else "have that of one place read by --around X,Y, ")
     for it in jobs:
         tell_units(terrain.frame, terrain.unit, it, caller.say)
     check: Callable[[Say], object] = partial(checked, terrain, job)

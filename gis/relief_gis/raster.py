@@ -106,8 +106,11 @@ class Raster:
         except RuntimeError as error:
             raise DeviceError(f"{self.source.path} could not be read: {error}") from error
 
-    def read(self, part: Optional[Window] = None) -> Terrain:
+    def read(self, part: Optional[Window] = None, cure: str = "") -> Terrain:
         """Reads heights: those of a window within the part to be read, or all of it.
+
+        Args:
+            cure: what else to do where cells are too many, and a comma.
 
         Raises:
             InputError: cells are too many, or not square on the ground.
@@ -117,7 +120,7 @@ class Raster:
         window = self.window if part is None else (left + part[0], top + part[1], part[2], part[3])
         try:
             with raised_errors():
-                _check_size(window, self.whole, self.source)
+                _check_size(window, self.whole, self.source, cure)
                 _check_ground(self.whole.part(window), self.source)
                 return _read(self.dataset, self.source, self.whole, window)
         except (RuntimeError, MemoryError) as error:
@@ -271,12 +274,12 @@ def _window_of(frame: Frame, window: Optional[Window], bounds: Optional[Bounds])
     return window
 
 
-def _check_size(window: Window, frame: Frame, source: cures.Source) -> None:
+def _check_size(window: Window, frame: Frame, source: cures.Source, cure: str) -> None:
     _, _, cols, rows = window
     longest = max(cols, rows)
     if longest > MOST_SIDE:
         raise InputError(f"{_size_words(window, source)}: cut a part out by --window COL,ROW,COLS,ROWS or --bounds "
-                         "WEST,SOUTH,EAST,NORTH, with a margin round the catchment, or make the cells larger: "
+                         f"WEST,SOUTH,EAST,NORTH, with a margin round the catchment, {cure}or make the cells larger: "
                          f"{_coarsening(frame, source, longest)}")
 
 

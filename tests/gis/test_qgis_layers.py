@@ -236,7 +236,7 @@ class Layers(Case):
                  self.case("dem.tif", "out.tif", "view", {"POINTS": masts, "EYE": 2.125})]
         outcomes = self.outcomes(*cases)
         for (worked, said), told in zip(outcomes, ("'Extent to read' lies outside the raster",
-                                                   "cut a part out by 'Extent to read',",
+                                                   "name one place by 'Read only what has the catchment of this place'",
                                                    "set it in the layer's properties",
                                                    "give a layer of points or a click",
                                                    "'Decimals of heights that are kept' 3 would do")):

@@ -71,6 +71,7 @@ class Rasters(Case):
         array[1, 2000] = 7
         self.raster(array)
         self.refuse_fill("4,097 columns and 3 rows, and 4,096 of each is the most: cut a part out by --window")
+        self.refuse_fill(", have that of one place read by --around X,Y, or make the cells larger: gdalwarp ")
         self.make("fill", "dem.tif", "out.tif", "--window", "1990,0,20,3")
 
     def test_no_data_at_all(self):

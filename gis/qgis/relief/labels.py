@@ -45,6 +45,7 @@ VOCABULARY = (
     (r"--window COL,ROW,COLS,ROWS or --bounds WEST,SOUTH,EAST,NORTH", f"'{EXTENT}'"),
     (r"--bounds lie (.*): give WEST,SOUTH,EAST,NORTH in its projection", rf"'{EXTENT}' lies \1"),
     (r"--window \d\S*", f"'{EXTENT}'"),
+    (r"have that of one place read by --around X,Y", f"name one place by '{AROUND}'"),
     (r"--curvature takes", f"'{CURVATURE}' takes"),
     (r"the raster has no projection: give --projection", f"the raster has no projection: set it in {PROPERTIES}"),
     (r"give --codes \S+", f"choose others for '{CODES}'"),
