@@ -1,6 +1,6 @@
 -- The initial counts of steps at the spots of a tile's window: 0 where a cell of the tile drains at
 -- once, sinks included, else unknown. The window is the tile and a border of one cell around it.
-use Rattle.std.proofs.Common.{◌≡◌, ℕ, ◌+◌, ◌*◌, ◌<◌, ◌≤◌, ◌⊎◌, inl, inr, List, [], length, get_or, Option, Some, slice_set, Contains, ℤ, sym, ap, subst, refl, ◌∙◌, arith}
+use Rattle.std.proofs.Common.{◌≡◌, ℕ, ◌+◌, ◌<◌, ◌≤◌, ◌⊎◌, inl, inr, List, [], length, get_or, Option, Some, slice_set, ℤ, sym, ap, refl, ◌∙◌, arith}
 use Rattle.std.proofs.lemmas.Bool.{cases_eq, cases_lt}
 use Rattle.std.proofs.lemmas.List.{get_or_default, get_or_past, get_or-set_same, get_or-set_other, length-set}
 use Rattle.terrain.proofs.Places.{make_place, same_place}
@@ -13,7 +13,6 @@ use Rattle.tiles.specs.Cutting.{Cutting}
 use Rattle.drainage.specs.StepCounts.{no_count}
 use Rattle.drainage.proofs.StoredCounts.{known-some}
 use Rattle.drain.specs.Beginning.{AreBegun, AreBegunSpots, AreSoundInTile, HasGapOrLower, IsEdgeOrHasLower}
-use Rattle.drain.specs.Rounds.{IsWalked}
 use Rattle.drain.specs.Steps.{DrainsAtOnce}
 use Rattle.tiles.specs.Windows.{IsInner, Shows, area_of, spot_index}
 use Rattle.drain.specs.Search.{AreEntriesShown, IsSpread, count_on}

@@ -1,6 +1,6 @@
 -- In a map of directions exactly the data cells have steps and codes. Each code but 0 leads to a
 -- data cell that is lower, or as high with fewer steps (`IsDraining`).
-use Rattle.std.proofs.Common.{◌≡◌, ℕ, ◌<◌, inl, inr, List, [], Option, None, Some, MatchOption, is_some, ℤ, sym, ap, subst, ◌∙◌}
+use Rattle.std.proofs.Common.{◌≡◌, ℕ, ◌<◌, inl, inr, List, [], Option, None, Some, MatchOption, is_some, ℤ, sym, ap, ◌∙◌}
 use Rattle.std.proofs.lemmas.Bool.{cases_lt}
 use Rattle.std.proofs.lemmas.Option.{MatchOption-at_some, MatchOption-at_none, same_Some, none-some}
 use Rattle.terrain.proofs.Places.{entry-below, entry-beside, inside_from_entry}

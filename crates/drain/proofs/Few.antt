@@ -1,6 +1,6 @@
 -- A shortest walk meets no cell twice, so its moves are fewer than the terrain's cells. Of these a
 -- terrain has at most 2^24.
-use Rattle.std.proofs.Common.{◌≡◌, ◌≢◌, ℕ, zero, suc, ◌+◌, ◌-◌, ◌*◌, ◌^◌, ◌<◌, ◌≤◌, inl, inr, List, [], ◌∷◌, length, sym, subst, refl, arith}
+use Rattle.std.proofs.Common.{◌≡◌, ◌≢◌, ℕ, zero, suc, ◌+◌, ◌-◌, ◌*◌, ◌^◌, ◌<◌, ◌≤◌, inl, inr, List, [], ◌∷◌, length, subst, refl, arith}
 use Rattle.std.proofs.Math.Nat.{mul-le-mul_left, mul-le-mul_right}
 use Rattle.terrain.proofs.Places.{inside_from_entry, index_below, index_injective}
 use Rattle.terrain.specs.Raster.{Terrain, IsTerrain}

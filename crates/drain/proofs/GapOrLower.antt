@@ -1,7 +1,7 @@
 -- A cell of a tile is an edge cell or has a lower neighbour exactly if one of the spots around its
 -- own has no data or is lower. Spots are the places of the tile's window: the tile and a border of
 -- one cell around it.
-use Rattle.std.proofs.Common.{◌≡◌, ◌≢◌, ℕ, ◌+◌, ◌-◌, ◌<◌, ◌<ℤ◌, inl, inr, List, get_or, false, Option, None, Some, is_some, ℤ, ◌⊎◌, lit<, sym, ap, subst, refl, ◌∙◌, arith}
+use Rattle.std.proofs.Common.{◌≡◌, ◌≢◌, ℕ, ◌+◌, ◌-◌, ◌<◌, ◌<ℤ◌, inl, inr, get_or, false, Option, None, Some, is_some, ℤ, ◌⊎◌, lit<, sym, ap, refl, ◌∙◌, arith}
 use Rattle.std.proofs.lemmas.Bool.{cases_eq, false≢true}
 use Rattle.std.specs.Option.{option_and_then}
 use Rattle.terrain.specs.Raster.{Terrain}

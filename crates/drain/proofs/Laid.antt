@@ -1,7 +1,7 @@
 -- The direction of a data cell by the eight heights around it and by the steps of its neighbours. So
 -- it is `direction_of` its surroundings: heights and steps of the cell and its neighbours, and
 -- whether it is an end cell.
-use Rattle.std.proofs.Common.{◌≡◌, ℕ, ◌+◌, ◌*◌, ◌<◌, ◌≤◌, ◌<ℤ◌, ◌-ℤ◌, inl, inr, true, ltb, cond, max, fold, List, [], ◌∷◌, length, get_or, map, Option, None, Some, is_some, MatchOption, ℤ, sym, ap, subst, refl, ◌∙◌, arith}
+use Rattle.std.proofs.Common.{◌≡◌, ℕ, ◌+◌, ◌*◌, ◌<◌, ◌≤◌, ◌<ℤ◌, ◌-ℤ◌, inl, inr, true, ltb, cond, max, fold, List, [], ◌∷◌, length, get_or, map, Option, None, Some, is_some, ℤ, sym, ap, refl, ◌∙◌, arith}
 use Rattle.std.proofs.lemmas.Bool.{cases_Bool, cases_lt, and_from, eq-eqb, lt-ltb, cond-true, false≢true}
 use Rattle.std.proofs.lemmas.Bool.Decides.{Decides-int_eq}
 use Rattle.std.proofs.lemmas.List.{get_or_past, get_or-map}
@@ -10,7 +10,7 @@ use Rattle.std.proofs.lemmas.List.Quantifiers.{position-Some}
 use Rattle.std.proofs.lemmas.Option.{none-some, option_and_then_some, same_Some}
 use Rattle.std.specs.Int.{int_gap}
 use Rattle.std.specs.List.{list_any}
-use Rattle.std.specs.Option.{option_map, option_zip, option_and_then}
+use Rattle.std.specs.Option.{option_map}
 use Rattle.terrain.proofs.Heights.{height_in, height_is}
 use Rattle.terrain.specs.Raster.{Terrain, IsTerrain, IsHeight}
 use Rattle.terrain.specs.Neighbours.{height_at, entry_at, IsDataCell, height_of}

@@ -1,7 +1,7 @@
 -- Spot by spot along a row of a window, a number stays 1 plus the least count so far at one height,
 -- but at most a bound (`IsLeastAlong`). Before the first spot the number is the bound. Spots are
 -- the places of a tile's window: the tile and a border of one cell around it.
-use Rattle.std.proofs.Common.{◌≡◌, ℕ, ◌+◌, ◌<◌, ◌≤◌, ◌⊎◌, inl, inr, List, ℤ, Option, sym, subst, refl, ◌∙◌, arith}
+use Rattle.std.proofs.Common.{◌≡◌, ℕ, ◌+◌, ◌<◌, ◌≤◌, ◌⊎◌, inl, inr, List, ℤ, Option, refl, ◌∙◌, arith}
 use Rattle.std.proofs.lemmas.Bool.{cases_eq}
 use Rattle.terrain.proofs.Places.{make_place, same_place}
 use Rattle.terrain.specs.declared.place.Place.{Place}

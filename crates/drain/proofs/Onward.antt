@@ -1,6 +1,6 @@
 -- The eight ways around a cell, looked at from the last to the first: those from 8 - `turn` on, and then
 -- the way before them.
-use Rattle.std.proofs.Common.{ℕ, ◌+◌, ◌-◌, ◌<◌, ◌≤◌, inl, inr, Option, Some, None, sym, subst, arith}
+use Rattle.std.proofs.Common.{ℕ, ◌+◌, ◌-◌, ◌<◌, ◌≤◌, inl, inr, Option, Some, None, arith}
 use Rattle.std.proofs.lemmas.Bool.{cases_eq}
 use Rattle.drain.specs.Codes.{IsFirstWay}
 

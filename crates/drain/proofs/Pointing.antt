@@ -14,7 +14,7 @@ use Rattle.terrain.specs.Ways.{way_codes, ways_from, way_of, code_of, place_on, 
 use Rattle.terrain.specs.declared.place.Place.{Place}
 use Rattle.terrain.proofs.EightWays.{eight, Touches-from_ways}
 use Rattle.drain.specs.Steps.{HasLower, DrainsAtOnce, AreSteps}
-use Rattle.drain.specs.Directions.{IsSteepest, IsOnward, PointsToFirst, IsDirection}
+use Rattle.drain.specs.Directions.{PointsToFirst, IsDirection}
 use Rattle.drainage.specs.Drained.{Falls}
 use Rattle.drain.proofs.Local.{one_number_of_steps}
 use Rattle.terrain.proofs.Options.{cases_option}

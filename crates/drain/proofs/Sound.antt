@@ -1,6 +1,6 @@
 -- A count that is one more than that of a neighbour of equal height is the length of a flat walk. If
 -- it is less than the cell's count, putting it lowers the sum of all counts.
-use Rattle.std.proofs.Common.{◌≡◌, ◌≢◌, ℕ, ◌+◌, ◌*◌, ◌^◌, ◌<◌, ◌≤◌, ◌⊎◌, inl, inr, List, [], ◌∷◌, ◌++◌, length, get_or, slice_set, Option, Some, None, Vec, Global, IfSome, unwrap_or, is_some, sym, ap, subst, refl, ◌∙◌, arith}
+use Rattle.std.proofs.Common.{◌≡◌, ◌≢◌, ℕ, ◌+◌, ◌*◌, ◌^◌, ◌<◌, ◌≤◌, ◌⊎◌, inl, inr, List, [], ◌∷◌, ◌++◌, length, get_or, slice_set, Option, Some, None, Vec, Global, IfSome, is_some, sym, ap, refl, ◌∙◌, arith}
 use Rattle.std.specs.Prelude.{slice_get}
 use Rattle.std.proofs.lemmas.Bool.{cases_eq, cases_lt}
 use Rattle.std.proofs.lemmas.List.Elements.{All-push}
@@ -11,7 +11,6 @@ use Rattle.terrain.specs.Raster.{Terrain, IsTerrain}
 use Rattle.terrain.specs.Neighbours.{height_at, entry_at, index_of, IsInside, IsNeighbour, Touches}
 use Rattle.terrain.specs.declared.place.Place.{Place}
 use Rattle.tile_jobs.proofs.Sums.{sum_below-less}
-use Rattle.tile_jobs.specs.Sums.{sum_below}
 use Rattle.drainage.proofs.Reach.{data_inside}
 use Rattle.tiles.specs.Cutting.{AreTileLists, Cutting, Cuts, IsCutting, IsPutBack, IsWithin, tile_count, tile_entry, tile_of_place}
 use Rattle.tiles.proofs.Cut.{tile_of_place_below}

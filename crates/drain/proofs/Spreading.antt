@@ -1,7 +1,7 @@
 -- Laws of `IsSpread` (`Search`): a relaxation lowers a spot's count to one more than a count that
 -- an adjacent spot of its height has after some relaxations. Relaxations after relaxations are
 -- relaxations. They keep the length of the list of counts and raise no count.
-use Rattle.std.proofs.Common.{◌≡◌, ◌≢◌, ℕ, ◌+◌, ◌<◌, ◌≤◌, ◌⊎◌, inl, inr, All, List, [], ◌∷◌, ◌++◌, length, get_or, set, sum, ℤ, Option, sym, ap, subst, refl, ◌∙◌, arith}
+use Rattle.std.proofs.Common.{◌≡◌, ◌≢◌, ℕ, ◌+◌, ◌<◌, ◌≤◌, ◌⊎◌, inl, inr, All, List, [], ◌∷◌, ◌++◌, length, get_or, set, sum, ℤ, Option, sym, ap, refl, ◌∙◌, arith}
 use Rattle.std.proofs.lemmas.Bool.{cases_eq, cases_lt}
 use Rattle.std.proofs.lemmas.List.{length_push, length-set, get_or-set_same, get_or-set_other, get_or_past}
 use Rattle.std.proofs.lemmas.List.Elements.{All-push}
@@ -11,7 +11,7 @@ use Rattle.terrain.specs.declared.place.Place.{Place}
 use Rattle.tiles.specs.declared.bounds.Bounds.{Bounds}
 use Rattle.tiles.specs.declared.window.Window.{Window}
 use Rattle.tiles.specs.Windows.{spot_index, IsSpot, IsInner}
-use Rattle.drain.specs.Search.{AreAtMostNoCount, AreLevel, height_on, count_on, IsLowering, IsPulled, IsSpread, same, moved}
+use Rattle.drain.specs.Search.{AreAtMostNoCount, height_on, count_on, IsLowering, IsPulled, IsSpread, same, moved}
 
 pub set_low : (xs : List ℕ) (i n k : ℕ) → n ≤ get_or xs i 0 → get_or (set xs i n) k 0 ≤ get_or xs k 0
 set_low xs i n k le = elim (cases_eq k i) [

@@ -1,7 +1,7 @@
 -- The windows of a tile, with heights and with counts, have those of each of its cells and of the cells
 -- around it. These give the cell's direction, if the counts are the steps. A window is the tile and a
 -- border of one cell around it.
-use Rattle.std.proofs.Common.{◌≡◌, ℕ, MatchOption, ◌^◌, ◌+◌, ◌<◌, inl, inr, List, length, Vec, Global, get_or, Option, None, Some, is_some, IfSome, unwrap_or, ℤ, sym, ap, subst, refl, ◌∙◌, arith}
+use Rattle.std.proofs.Common.{◌≡◌, ℕ, MatchOption, ◌^◌, ◌+◌, ◌<◌, inl, inr, List, length, Vec, Global, get_or, Option, None, Some, is_some, IfSome, ℤ, sym, ap, subst, refl, ◌∙◌, arith}
 use Rattle.std.specs.Option.{option_and_then}
 use Rattle.std.proofs.lemmas.Bool.{cases_lt}
 use Rattle.terrain.proofs.Heights.{height_in}
@@ -12,7 +12,6 @@ use Rattle.terrain.specs.declared.place.Place.{Place}
 use Rattle.tiles.specs.Windows.{IsInner, Shows, spot_index}
 use Rattle.tiles.proofs.SpotWays.{value_on_way}
 use Rattle.tiles.specs.Cutting.{IsCutting, bounds_of, tile_count}
-use Rattle.tile_maps.specs.Maps.{IsMadeTile}
 use Rattle.tile_maps.proofs.TileLists.{made_tile}
 use Rattle.drain.specs.declared.codes.TileCodes.{TileCodes}
 use Rattle.drain.specs.declared.codes.TileCodes.TheVariants.{Codes, TooHigh}
@@ -28,11 +27,10 @@ use Rattle.drain.proofs.AroundLemmas.{steps_at}
 use Rattle.drain.proofs.Laid.{LeadsOn, code_is, down_is, leads, onward_is, outlet_is, with_steps, without_steps}
 use Rattle.drain.proofs.Quiet.{if_some}
 use Rattle.drain.proofs.Spreading.{spot_from_inner}
-use Rattle.drain.specs.Search.{AreEntriesShown, level_on, stored}
+use Rattle.drain.specs.Search.{level_on, stored}
 use Rattle.drain.proofs.Pointing.{next_on_way}
 use Rattle.drain.proofs.Sound.{known_counted, lower_change, small}
 use Rattle.drainage.proofs.Reach.{data_inside}
-use Rattle.drainage.specs.StepCounts.{no_count}
 use Rattle.terrain.proofs.EightWays.{way_to}
 use Rattle.terrain.proofs.Places.{entry-inside}
 use Rattle.std.proofs.lemmas.Option.{get_or_from_slice_get, option_and_then_some, slice_get_within}

@@ -1,6 +1,6 @@
 -- If no other gauge drains through gauge g, accumulation + 1 cells have g's number. An appended
 -- gauge changes only the catchments of cells that drain through it.
-use Rattle.std.proofs.Common.{◌≡◌, ◌≢◌, ℕ, zero, suc, ◌+◌, ◌-◌, ◌<◌, ◌≤◌, inl, inr, Bool, true, false, cond, not, ◌&&◌, ◌||◌, List, [], ◌∷◌, ◌++◌, length, map, get_or, count_by, Option, None, Some, is_some, unwrap_or, sym, ap, refl, ◌∙◌, arith}
+use Rattle.std.proofs.Common.{◌≡◌, ◌≢◌, ℕ, zero, suc, ◌+◌, ◌-◌, ◌<◌, ◌≤◌, inl, inr, Bool, true, false, cond, not, ◌&&◌, ◌||◌, List, [], ◌∷◌, ◌++◌, length, map, get_or, count_by, Option, None, Some, is_some, sym, ap, refl, ◌∙◌, arith}
 use Rattle.std.specs.Prelude.{◌==◌}
 use Rattle.std.specs.Option.{option_or, option_map_or}
 use Rattle.std.specs.List.{find, list_any, position_from, range_with_len}

@@ -7,7 +7,6 @@ use Rattle.std.proofs.Math.ListN.{length-map}
 use Rattle.std.proofs.lemmas.Option.{slice_get_within}
 use Rattle.std.proofs.lemmas.List.FromFn.{get_or-map-range_with_len, length-map-range_with_len}
 use Rattle.terrain.specs.declared.place.Place.{Place}
-use Rattle.tiles.specs.declared.bounds.Bounds.{Bounds}
 use Rattle.tiles.specs.Cutting.{Cutting, IsInBounds, IsInTile, AreBounds, tile_count, cell_count, bounds_of, tile_entry, place_in, index_in}
 use Rattle.tiles.proofs.Cut.{in_bounds, bounds_inside}
 use Rattle.tiles.proofs.TileOrder.{index_in_below, index_in-place_in, place_in-index_in, tile_entry-in}
@@ -16,7 +15,7 @@ use Rattle.flow.specs.Counts.{accumulation, IsValueAt}
 use Rattle.flow.specs.Streams.{AreStreams, AreSums, total}
 use Rattle.flow.specs.TileFlow.{Flow, IsTileExits, AreTileCounts}
 use Rattle.flow.specs.TileLinks.{AreTileCodes, links_by, weights_by, where_data}
-use Rattle.flow.specs.Whole.{IsGridFlow, make_directed, directed_on}
+use Rattle.flow.specs.Whole.{IsGridFlow, directed_on}
 use Rattle.flow.specs.Inflows.{Inflows, AreInflows, listed_inflow}
 use Rattle.flow.specs.RimGraph.{AreFlowsOf}
 use Rattle.flow.specs.Counting.{IsCounting, IsCountable, AreCountable, AreInflowWeights, AreCounts}

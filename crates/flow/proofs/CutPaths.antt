@@ -1,5 +1,5 @@
 -- With gauges as outlets, the gauge numbers of the ends of flow paths are the catchments.
-use Rattle.std.proofs.Common.{◌≡◌, ℕ, zero, suc, ◌+◌, ◌<◌, ◌≤◌, ◌⊎◌, inl, inr, Bool, true, false, cond, List, [], ◌∷◌, ◌++◌, length, map, get_or, Option, None, Some, IsSome, unwrap_or, sym, ap, subst, refl, ◌∙◌, arith, add-one}
+use Rattle.std.proofs.Common.{◌≡◌, ℕ, zero, suc, ◌+◌, ◌<◌, ◌≤◌, ◌⊎◌, inl, inr, Bool, true, false, cond, List, [], ◌∷◌, ◌++◌, length, map, get_or, Option, None, Some, IsSome, unwrap_or, sym, ap, refl, ◌∙◌, arith, add-one}
 use Rattle.std.specs.Prelude.{◌==◌}
 use Rattle.std.specs.Option.{option_and_then, option_or, option_map_or}
 use Rattle.std.specs.List.{find, list_any, position_from, range_with_len, All}
@@ -119,9 +119,8 @@ position_below p i (x ∷ xs) = elim (cases_Bool (p x)) [
   | inl is ↦ (let e : unwrap_or (position_from p (suc i) (x ∷ xs)) 0 ≡ suc i = ap
       or_zero (cond-true (p x) (Some (suc i)) _ is) in omega (arith, e))
   | inr isnt ↦
-      let e : unwrap_or (position_from p (suc i) (x ∷ xs)) 0
-      ≡ unwrap_or (position_from p (suc i + 1) xs) 0 = ap or_zero
-      (cond-false (p x) (Some (suc i)) (position_from p (suc i + 1) xs) isnt) in
+      let e : unwrap_or (position_from p (suc i) (x ∷ xs)) 0 ≡ unwrap_or (position_from p (suc i + 1) xs) 0 =
+      ap or_zero (cond-false (p x) (Some (suc i)) (position_from p (suc i + 1) xs) isnt) in
       let z : suc i + 1 ≡ suc (suc i) = omega arith in
       omega
       (arith, e, ap (λ (k : ℕ). unwrap_or (position_from p k xs) 0) z, position_below p (suc i) xs)

@@ -1,7 +1,7 @@
 -- Three counts of cells, each a sum of 1 or 0 over all cells. The first counts cells whose flow
 -- paths contain p. The second counts cells whose paths reach p without leaving their tile, the
 -- third those whose paths enter p from another tile.
-use Rattle.std.proofs.Common.{◌≡◌, ◌≢◌, ℕ, ◌+◌, ◌-◌, ◌*◌, ◌<◌, ◌≤◌, Bool, true, false, not, ◌&&◌, cond, Option, is_some, sym, ap, refl, ◌∙◌, arith, List, length, inl, inr}
+use Rattle.std.proofs.Common.{◌≡◌, ◌≢◌, ℕ, ◌+◌, ◌-◌, ◌*◌, ◌<◌, ◌≤◌, Bool, true, false, not, ◌&&◌, cond, is_some, sym, ap, refl, ◌∙◌, arith, List, length, inl, inr}
 use Rattle.std.proofs.Math.Nat.{mul-le-mul}
 use Rattle.std.proofs.lemmas.Bool.{and_from, and_left, and_right, eq-eqb, cond-true, cond-false, false_from_ne_true, not_from_true, not_from_false, cases_Bool}
 use Rattle.terrain.specs.Ways.{places}
@@ -16,7 +16,7 @@ use Rattle.flow.specs.Counts.{drains_through, accumulation}
 use Rattle.tile_jobs.specs.Sums.{sum_below}
 use Rattle.flow.specs.TileFlow.{stays, reaches_inside, through_of, inflow_of}
 use Rattle.tile_jobs.proofs.Sums.{bit_le, sum_below-except, sum_below-few, sum_below-same, sum_below-add, sum_below-none, exchange, cond-sum, cond_same}
-use Rattle.flow.proofs.Ranges.{any_in_range, all_in_range, whole_bounds, sum_of_cells, grid_of}
+use Rattle.flow.proofs.Ranges.{any_in_range, all_in_range, sum_of_cells, grid_of}
 use Rattle.flow.proofs.Coded.{IsCoded, coded_from_some}
 use Rattle.flow.proofs.Sending.{and_on}
 use Rattle.flow.proofs.Reaching.{IsEnding, cell_below, cell_back, enters}

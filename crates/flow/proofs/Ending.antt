@@ -1,6 +1,6 @@
 -- If a path along links ends, it ends after fewer moves than there are nodes, and each move leaves
 -- fewer (`moves_left`). A list of known ends stays right as ends are written along a path.
-use Rattle.std.proofs.Common.{◌≡◌, ℕ, zero, suc, ◌+◌, ◌-◌, ◌<◌, ◌≤◌, ◌⊎◌, inl, inr, cond, eqb, List, length, sym, ap, subst, ◌∙◌, arith, add-zero, ◌≢◌, get_or, set, refl}
+use Rattle.std.proofs.Common.{◌≡◌, ℕ, zero, suc, ◌+◌, ◌-◌, ◌<◌, ◌≤◌, ◌⊎◌, inl, inr, cond, eqb, List, length, sym, ap, ◌∙◌, arith, add-zero, ◌≢◌, get_or, set, refl}
 use Rattle.std.proofs.lemmas.Bool.{cases_eq, cases_lt, cond-true, cond-false, eq-eqb, ne_eqb}
 use Rattle.std.proofs.lemmas.List.{get_or-set_same, get_or-set_other}
 use Rattle.std.proofs.Math.ListN.{length-set}

@@ -1,6 +1,6 @@
 -- From data cells, paths along a tile's links are the parts of flow paths inside the tile, and end
 -- at exits. A cell's link is the index of the next cell downstream in the tile, else its own.
-use Rattle.std.proofs.Common.{◌≡◌, ◌↔◌, ℕ, zero, suc, ◌<◌, ◌≤◌, ◌⊎◌, inl, inr, List, length, sym, ap, subst, refl, ◌∙◌, arith, ◌+◌, true, Option, is_some, mul_comm}
+use Rattle.std.proofs.Common.{◌≡◌, ◌↔◌, ℕ, zero, suc, ◌<◌, ◌≤◌, ◌⊎◌, inl, inr, List, length, sym, ap, subst, refl, ◌∙◌, arith, ◌+◌, true, is_some, mul_comm}
 use Rattle.std.specs.Prelude.{◌*◌, if◌then◌else◌, is_some, slice_index}
 use Rattle.std.proofs.lemmas.Bool.{cases_eq, cases_Bool, cond-true, cond-false, false_from_ne_true, eq-eqb}
 use Rattle.std.proofs.Math.Nat.{mul-le-mul}

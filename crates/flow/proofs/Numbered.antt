@@ -17,7 +17,7 @@ use Rattle.tiles.proofs.TileOrder.{place_in_tile, index_in-place_in, index_in_be
 use Rattle.drainage.specs.Following.{Directed, code_at, last_of}
 use Rattle.flow.specs.Counts.{IsValueAt}
 use Rattle.flow.specs.TileFlow.{Flow, exit_in, IsTileExits, IsExitOf, IsExitCell}
-use Rattle.flow.specs.Whole.{is_outlet_code, make_directed, directed_on}
+use Rattle.flow.specs.Whole.{is_outlet_code, directed_on}
 use Rattle.flow.specs.RimGraph.{AreFlowsOf, AreOutlets, Outlets, listed_outlet}
 use Rattle.flow.specs.Numbering.{EndNumbers, end_number, outlet_numbers, IsNumbering, IsReady, AreReady, IsNumberedPlace, number_at, exit_number_by, exit_numbers_by, cell_number, cell_numbers_by}
 use Rattle.flow.proofs.Coded.{IsCoded, cases_coded, coded_along, coded_inside}

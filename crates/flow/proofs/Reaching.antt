@@ -14,7 +14,7 @@ use Rattle.drainage.specs.Drained.{AllFlowEnds}
 use Rattle.terrain.proofs.Listed.{place_is, is_place_from}
 use Rattle.flow.specs.Counts.{drains_through}
 use Rattle.flow.specs.TileFlow.{stays}
-use Rattle.flow.proofs.Ranges.{whole_bounds, some_in_range, any_in_range, every_in_range, all_in_range, grid_of}
+use Rattle.flow.proofs.Ranges.{some_in_range, any_in_range, every_in_range, all_in_range, grid_of}
 use Rattle.flow.proofs.Ending.{early_stop}
 use Rattle.flow.proofs.Coded.{IsCoded, coded_along, coded_inside, outlet_stays, follow_stays, follow_more, StopsAt, cycle_stops}
 

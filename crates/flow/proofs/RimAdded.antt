@@ -1,7 +1,7 @@
 -- A list has a weight for each cell of a tile. If the amount listed for each side number of the
 -- tile is added at the cell of that number, each weight grows by the cell's inflow.
 -- A side number is a rim cell's number in its tile.
-use Rattle.std.proofs.Common.{◌≡◌, ◌≢◌, ℕ, ◌+◌, ◌*◌, ◌%◌, ◌^◌, ◌<◌, ◌≤◌, cond, eqb, inl, inr, List, length, get_or, set, Option, None, Some, sym, ap, subst, ◌∙◌, arith, refl}
+use Rattle.std.proofs.Common.{◌≡◌, ◌≢◌, ℕ, ◌+◌, ◌*◌, ◌%◌, ◌^◌, ◌<◌, ◌≤◌, cond, eqb, inl, inr, List, length, get_or, set, Option, None, Some, sym, ap, ◌∙◌, arith, refl}
 use Rattle.std.proofs.lemmas.Bool.{cases_Bool, eq-eqb, ne_eqb, cond-true, cond-false, false_from_ne_true, false≢true}
 use Rattle.std.proofs.lemmas.Nat.{div-mul-add, mod-mul-add}
 use Rattle.terrain.specs.declared.place.Place.{Place}

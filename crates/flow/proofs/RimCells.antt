@@ -1,5 +1,5 @@
 -- `side_cell` finds the cell that has a side number, a rim cell's number in its tile.
-use Rattle.std.proofs.Common.{◌≡◌, ℕ, ◌+◌, ◌*◌, ◌&&◌, inl, inr, eqb, Option, None, Some, ap, ◌∙◌, sym, subst, refl}
+use Rattle.std.proofs.Common.{◌≡◌, ℕ, ◌+◌, ◌*◌, ◌&&◌, inl, inr, eqb, Option, None, Some, ap, ◌∙◌, sym, refl}
 use Rattle.std.proofs.lemmas.Bool.{cases_Bool, and_from, and_parts, eq-eqb, eqb-true, cond-true, cond-false}
 use Rattle.std.proofs.lemmas.Option.{none-some, same_Some}
 use Rattle.terrain.specs.declared.place.Place.{Place}

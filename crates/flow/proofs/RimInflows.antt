@@ -1,5 +1,5 @@
 -- The amounts that exits into other tiles send to a place add up to the place's inflow.
-use Rattle.std.proofs.Common.{◌≡◌, ◌≢◌, ℕ, suc, ◌+◌, ◌-◌, ◌*◌, ◌<◌, ◌≤◌, ◌⊎◌, inl, inr, true, eqb, List, get_or, Option, None, Some, is_some, sym, ap, subst, refl, ◌∙◌, arith}
+use Rattle.std.proofs.Common.{◌≡◌, ◌≢◌, ℕ, ◌+◌, ◌-◌, ◌*◌, ◌<◌, ◌≤◌, ◌⊎◌, inl, inr, true, eqb, List, get_or, Option, None, Some, is_some, sym, ap, refl, ◌∙◌, arith}
 use Rattle.std.specs.List.{list_any, range_with_len}
 use Rattle.std.proofs.lemmas.Bool.{cases_eq, cases_Bool, and_from, and_left, and_right, eq-eqb, ne_eqb, eqb-true, cond-true, cond-false, false≢true}
 use Rattle.terrain.specs.declared.place.Place.{Place}

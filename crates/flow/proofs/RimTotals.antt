@@ -1,14 +1,14 @@
 -- The total of an exit into another tile is the sum of its weight and all weights upstream along
 -- links. It is the number of cells whose flow paths contain the exit. Exit i is the exit with rim
 -- number i, its number among the rim cells of all tiles.
-use Rattle.std.proofs.Common.{◌≡◌, ◌≢◌, ℕ, suc, ◌+◌, ◌-◌, ◌*◌, ◌<◌, ◌≤◌, ◌⊎◌, inl, inr, true, false, cond, ◌&&◌, eqb, List, length, get_or, Option, None, Some, is_some, sym, ap, subst, refl, ◌∙◌, arith, unwrap_or}
+use Rattle.std.proofs.Common.{◌≡◌, ◌≢◌, ℕ, suc, ◌+◌, ◌-◌, ◌<◌, ◌≤◌, ◌⊎◌, inl, inr, true, false, ◌&&◌, eqb, List, length, get_or, Option, None, Some, sym, ap, refl, ◌∙◌, arith, unwrap_or}
 use Rattle.std.specs.Option.{option_and_then}
 use Rattle.std.proofs.lemmas.Option.{none-some, MatchOption-at_some}
 use Rattle.std.proofs.lemmas.List.FromFn.{get_or-map-range_with_len, length-map-range_with_len}
 use Rattle.std.proofs.lemmas.Bool.{cases_eq, cases_lt, cases_Bool, and_from, and_parts, eqb-true, cond-true, cond-false, false_from_ne_true, false≢true}
 use Rattle.terrain.specs.declared.place.Place.{Place}
 use Rattle.tiles.specs.Cutting.{Cutting, tile_of_place}
-use Rattle.drainage.specs.Following.{Directed, code_at, next, follow, moves}
+use Rattle.drainage.specs.Following.{Directed, next, follow, moves}
 use Rattle.terrain.proofs.Listed.{is_place_from, place_is}
 use Rattle.terrain.specs.Neighbours.{is_place}
 use Rattle.flow.specs.Counts.{drains_through}
@@ -18,14 +18,14 @@ use Rattle.flow.specs.TileFlow.{Flow, AreTileCounts, stays, reaches_inside, IsEx
 use Rattle.tiles.specs.RimNumbers.{rim_number_count, rim_number, rim_place}
 use Rattle.flow.specs.RimGraph.{AreFlowsOf, target_by, next_exit_by, number_or, rim_links_by}
 use Rattle.flow.specs.Inflows.{rim_weight, rim_weights_by, weight_or, through_by}
-use Rattle.tile_jobs.proofs.Sums.{cond_same, sum_below-same, sum_below-add, sum_below-none, exchange, one_term, cond-sum}
+use Rattle.tile_jobs.proofs.Sums.{sum_below-none, one_term}
 use Rattle.flow.proofs.Ranges.{some_in_range, any_in_range, every_in_range}
 use Rattle.flow.proofs.Totals.{each_downstream, totals_are, sums_same, leads_parts, leads_from, upstream}
 use Rattle.terrain.proofs.Options.{cases_option}
-use Rattle.flow.proofs.Coded.{IsCoded, coded_along, coded_from_some, outlet_stays, follow_stays, follow_more, follow_first}
+use Rattle.flow.proofs.Coded.{IsCoded, coded_along, outlet_stays, follow_stays, follow_more, follow_first}
 use Rattle.flow.proofs.RimFlows.{LeavesTile, NextExit, flow_of, within_of, back, target_on, target_from, exit_here, not_outlet, to_below, next_or_last_exit, untargeted, links_size, link_at, rim_streams}
 use Rattle.flow.proofs.Reaching.{IsEnding, ending_of, still_at, still_from, reached_early, drains_at, drains_from, EntersRegion, stays_or_enters, never_enters, enters_from_one}
-use Rattle.flow.proofs.DrainedCells.{cell, drained, all_drained, drained_few, drained_inside, all_drained_inside, drained_inside_few, through_is, counted_on, counted_off, counted_none, counts_upstream}
+use Rattle.flow.proofs.DrainedCells.{drained, all_drained, drained_few, drained_inside, all_drained_inside, drained_inside_few, through_is, counted_on, counted_off, counted_none, counts_upstream}
 
 module _ {d : Directed} {t : Cutting} {flows : List Flow} (s : AreFlowsOf d t flows)
     (counts : AreTileCounts d t flows) where

@@ -14,11 +14,11 @@ use Rattle.flow.specs.Counts.{drains_through}
 use Rattle.tile_jobs.specs.Sums.{sum_below}
 use Rattle.flow.specs.Streams.{next_node, leads_to, upstream_sum}
 use Rattle.flow.specs.TileFlow.{stays, reaches_inside, inflow_of}
-use Rattle.tile_jobs.proofs.Sums.{cond_same, sum_below-same, sum_below-add, sum_below-none, exchange, one_term, cond-sum}
-use Rattle.flow.proofs.Ranges.{whole_bounds, some_in_range, any_in_range, grid_of}
+use Rattle.tile_jobs.proofs.Sums.{sum_below-add, sum_below-none, one_term}
+use Rattle.flow.proofs.Ranges.{some_in_range, any_in_range, grid_of}
 use Rattle.flow.proofs.Totals.{AreTotals, leads_parts, leads_from, upstream}
 use Rattle.flow.proofs.Sending.{and_on}
-use Rattle.flow.proofs.Coded.{IsCoded, coded_from_some, coded_along}
+use Rattle.flow.proofs.Coded.{IsCoded, coded_along}
 use Rattle.flow.proofs.InTile.{weight_in, AreTileWeights, IsPiece, cases_bounds, in_place, link_is, link-in, link-out, link_place, coded_within, tile_is}
 use Rattle.flow.proofs.Reaching.{IsEnding, still_at, still_from, reached_early, drains_at, drains_from, EntersRegion, stays_or_enters, never_enters, enters_from_one, one_move, enters_from, enters_at}
 use Rattle.flow.proofs.DrainedCells.{cell, all_drained, all_drained_inside, entered, inflow_sum, counted_on, counted_off, counted_none, counted, counts_upstream}

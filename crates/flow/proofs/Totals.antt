@@ -1,6 +1,6 @@
 -- If a node has a property whenever its donors, the other nodes linked to it, have the property,
 -- then every node has it. This bounds a node's total: its weight plus all weights upstream.
-use Rattle.std.proofs.Common.{◌≡◌, ◌≢◌, ℕ, zero, suc, ◌+◌, ◌<◌, ◌≤◌, Bool, true, false, not, eqb, cond, inl, inr, List, length, get_or, sym, ap, subst, refl, ◌∙◌, arith}
+use Rattle.std.proofs.Common.{◌≡◌, ◌≢◌, ℕ, zero, suc, ◌+◌, ◌<◌, ◌≤◌, Bool, true, false, not, eqb, cond, inl, inr, List, length, get_or, sym, ap, refl, ◌∙◌, arith}
 use Rattle.std.proofs.lemmas.Bool.{cases_eq, cases_Bool, cond-true, cond-false, and_from, and_parts, and_right, eq-eqb, ne_eqb, eqb-true, not-true, not_from_true, not_from_false, false_from_ne_true, false≢true}
 use Rattle.flow.specs.Streams.{AreStreams, total_within, total, next_node, node_after, leads_to, upstream_sum}
 use Rattle.tile_jobs.proofs.Sums.{sum_below-le, sum_below-same, sum_below-add}

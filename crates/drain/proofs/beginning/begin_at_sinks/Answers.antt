@@ -1,8 +1,6 @@
-use Rattle.std.proofs.Common.{◌∙◌, is_some, sym, ap, subst, arith}
+use Rattle.std.proofs.Common.{◌∙◌, is_some, sym, ap, arith}
 use Rattle.std.proofs.lemmas.Bool.{false≢true}
 use Rattle.terrain.proofs.Places.{same_place}
-use Rattle.terrain.specs.declared.place.Place.{Place}
-use Rattle.tiles.specs.Windows.{IsInner}
 use Rattle.drain.proofs.Begun.{before_all, before_any, sink_passed, sink_put}
 use Rattle.drain.proofs.Spreading.{spot_from_inner}
 use Rattle.drain.proofs.beginning.begin_at_sinks.Goals.{then-is_inner+then-is_some, else-is_inner, else-is_inner-via-then-is_inner+else-is_some, else-is_inner-via-else-is_inner}

@@ -1,4 +1,4 @@
-use Rattle.std.proofs.Common.{◌≡◌, ℕ, ◌<◌, ◌∙◌, length, sym, subst, arith}
+use Rattle.std.proofs.Common.{◌≡◌, ◌∙◌, length, arith}
 use Rattle.tiles.specs.Cutting.{tile_count}
 use Rattle.drain.proofs.Sound.{first_counts, first_lists}
 use Rattle.drain.proofs.first.first_round.Goals as goal

@@ -1,10 +1,9 @@
-use Rattle.std.proofs.Common.{◌∙◌, arith, ap, subst, ◌*◌, ◌≤◌, ℕ, List, Option, Vec, Global, length}
+use Rattle.std.proofs.Common.{◌∙◌, arith, ap, subst, ◌*◌, ◌≤◌, ℕ, Option, Vec, Global, length}
 use Rattle.std.proofs.Math.Nat.{mul-le-mul}
 use Rattle.std.proofs.lemmas.Result.{IfOk-weaker}
 use Rattle.drainage.specs.Drained.{directed_of}
-use Rattle.drainage.specs.Following.{Directed}
 use Rattle.flow.specs.Counts.{AreBasins, IsMapOf}
-use Rattle.flow.specs.Whole.{make_directed, directed_on}
+use Rattle.flow.specs.Whole.{directed_on}
 use Rattle.flow.specs.Numbering.{end_number, outlet_numbers}
 use Rattle.flow.proofs.Together.{directed_same, grid_flow}
 use Rattle.flow.proofs.Numbered.{outlet_number_few}

@@ -1,13 +1,9 @@
-use Rattle.std.proofs.Common.{◌∙◌, ℕ, List, Option, unwrap_or, sym, ap, subst, refl, arith}
+use Rattle.std.proofs.Common.{◌∙◌, sym, ap, refl, arith}
 use Rattle.std.specs.Prelude.{◌==◌}
 use Rattle.terrain.specs.Neighbours.{index_of}
 use Rattle.terrain.specs.declared.place.Place.{Place}
-use Rattle.drainage.specs.Following.{Directed}
-use Rattle.flow.specs.Catchments.{AreCatchments}
 use Rattle.flow.specs.CutCodes.{gauge_numbers}
-use Rattle.flow.specs.Whole.{IsGridFlow, make_directed, directed_on}
-use Rattle.flow.specs.Numbering.{end_number}
-use Rattle.flow.specs.Counts.{IsMapOf}
+use Rattle.flow.specs.Whole.{directed_on}
 use Rattle.flow.proofs.CutPaths.{cut_ends, catchments_are, position_below, or_zero}
 use Rattle.flow.proofs.GaugeFaults.{all_sound, few_gauges, have_codes_in}
 use Rattle.flow.proofs.Reaching.{ending_of}

@@ -1,4 +1,4 @@
-use Rattle.std.proofs.Common.{◌≡◌, ◌<◌, ℕ, Some, length, get_or, set, ap, ◌∙◌, arith}
+use Rattle.std.proofs.Common.{◌≡◌, ◌<◌, Some, length, get_or, set, ap, ◌∙◌, arith}
 use Rattle.terrain.specs.Neighbours.{index_of}
 use Rattle.terrain.proofs.Places.{make_place}
 use Rattle.flow.proofs.CutLists.{cut_next, gauge_inside, index_at}

@@ -1,8 +1,8 @@
-use Rattle.std.proofs.Common.{◌≡◌, ℕ, ◌+◌, ◌<◌, List, length, get_or, Option, Vec, Global, subst, sym, ap, ◌∙◌, arith}
+use Rattle.std.proofs.Common.{◌≡◌, ℕ, ◌+◌, ◌<◌, List, length, get_or, Option, Vec, Global, ap, ◌∙◌, arith}
 use Rattle.std.specs.Prelude.{slice_index}
 use Rattle.std.proofs.lemmas.Result.{IfOk-weaker}
 use Rattle.flow.specs.TileFlow.{Flow}
-use Rattle.flow.specs.Streams.{AreStreams, AreSums, total}
+use Rattle.flow.specs.Streams.{AreSums, total}
 use Rattle.flow.specs.TileLinks.{counts_by, links_by}
 use Rattle.flow.specs.Counting.{AreCounts}
 use Rattle.flow.proofs.counting.tile_counts.Goals as goal

@@ -1,4 +1,4 @@
-use Rattle.std.proofs.Common.{◌≢◌, ℕ, ◌<◌, inl, inr, length, set, subst, sym, ap, ◌∙◌, arith}
+use Rattle.std.proofs.Common.{◌≢◌, ◌<◌, inl, inr, length, set, subst, sym, ap, ◌∙◌, arith}
 use Rattle.flow.specs.Finding.{IsKnown, unknown_entry}
 use Rattle.flow.specs.Streams.{end_of}
 use Rattle.flow.proofs.Ending.{writes_left, known_more, known_same, known_still, end-onward, end-inside, writes_fall}

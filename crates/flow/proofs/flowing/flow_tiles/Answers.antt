@@ -1,7 +1,7 @@
 use Rattle.std.proofs.Common.{refl}
 use Rattle.flow.specs.TileFlow.{IsTileFlow, AreTileCounts}
 use Rattle.flow.specs.RimGraph.{AreFlowsOf}
-use Rattle.flow.specs.Whole.{make_directed, directed_on}
+use Rattle.flow.specs.Whole.{directed_on}
 use Rattle.flow.proofs.Together.{jobs_gave}
 use Rattle.flow.proofs.flowing.flow_tiles.Goals as goal
 

@@ -1,5 +1,4 @@
 use Rattle.std.proofs.Common.{◌+◌, get_or, ap, ◌∙◌, arith}
-use Rattle.tiles.specs.declared.bounds.Bounds.{Bounds}
 use Rattle.flow.specs.RimGraph.{side_cell}
 use Rattle.flow.proofs.Piece.{bounds_end_in_grid}
 use Rattle.flow.proofs.RimAdded.{adds_fit, adds_more, adds_done}

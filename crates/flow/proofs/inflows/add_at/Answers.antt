@@ -1,6 +1,6 @@
-use Rattle.std.proofs.Common.{◌+◌, ◌^◌, ◌<◌, get_or, set, Option, IfSome, sym, ap, subst, ◌∙◌, arith, rules}
+use Rattle.std.proofs.Common.{◌+◌, ◌^◌, ◌<◌, get_or, set, Option, sym, ap, ◌∙◌, arith, rules}
 use Rattle.terrain.specs.declared.place.Place.{Place}
-use Rattle.tiles.specs.Cutting.{IsInBounds, index_in}
+use Rattle.tiles.specs.Cutting.{index_in}
 use Rattle.flow.specs.Inflows.{adds_at}
 use Rattle.flow.proofs.RimAdded.{added, own_adds}
 use Rattle.flow.proofs.inflows.add_at.Goals as goal

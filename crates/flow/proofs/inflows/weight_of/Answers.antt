@@ -1,6 +1,4 @@
-use Rattle.std.proofs.Common.{◌≡◌, ◌+◌, ◌^◌, ◌<◌, sym, ap, ◌∙◌, arith, rules, unwrap_or, Option, ℕ, subst}
-use Rattle.terrain.specs.declared.place.Place.{Place}
-use Rattle.tiles.specs.Cutting.{IsWithin}
+use Rattle.std.proofs.Common.{◌≡◌, ◌+◌, ◌^◌, ◌<◌, ap, ◌∙◌, arith, rules, unwrap_or}
 use Rattle.tiles.specs.RimNumbers.{rim_place}
 use Rattle.flow.specs.Inflows.{rim_weight, through_by}
 use Rattle.flow.proofs.RimFlows.{target_is, targets_size, target_from, within_of}

@@ -1,4 +1,3 @@
-use Rattle.drainage.specs.Drained.{directed_of}
 use Rattle.flow.proofs.OutletGauges.{basins_are}
 use Rattle.flow.proofs.Together.{drained_ending, drained_coded}
 use Rattle.flow.proofs.laws.catchments_of_outlets_are_basins.Goals as goal

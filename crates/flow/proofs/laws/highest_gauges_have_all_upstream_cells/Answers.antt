@@ -1,5 +1,4 @@
 use Rattle.terrain.proofs.Listed.{any_from_listed, listed_from_any}
-use Rattle.drainage.specs.Drained.{directed_of}
 use Rattle.flow.proofs.CatchmentLaws.{caught_count}
 use Rattle.flow.proofs.Together.{drained_ending, drained_coded}
 use Rattle.flow.proofs.laws.highest_gauges_have_all_upstream_cells.Goals as goal

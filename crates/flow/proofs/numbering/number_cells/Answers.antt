@@ -3,7 +3,7 @@ use Rattle.std.proofs.lemmas.Result.{IfOk-weaker}
 use Rattle.tile_maps.specs.Maps.{IsMadeMap}
 use Rattle.tile_maps.proofs.Whole.{entry_of_map}
 use Rattle.flow.specs.Counts.{IsMapOf}
-use Rattle.flow.specs.Whole.{make_directed, directed_on}
+use Rattle.flow.specs.Whole.{directed_on}
 use Rattle.flow.specs.Numbering.{IsEndNumberAt, end_number}
 use Rattle.flow.proofs.Numbered.{numbering_of, ready}
 use Rattle.flow.proofs.numbering.number_cells.Goals as goal

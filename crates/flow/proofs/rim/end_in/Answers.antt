@@ -1,6 +1,5 @@
 use Rattle.std.proofs.Common.{◌<◌, length, get_or, sym, ap, ◌∙◌, arith}
 use Rattle.std.proofs.lemmas.List.FromFn.{get_or-map-range_with_len, length-map-range_with_len}
-use Rattle.terrain.specs.declared.place.Place.{Place}
 use Rattle.terrain.proofs.Listed.{place_is}
 use Rattle.flow.specs.Streams.{end_of}
 use Rattle.tiles.specs.Cutting.{index_in}

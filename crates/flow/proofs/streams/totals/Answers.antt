@@ -1,6 +1,5 @@
-use Rattle.std.proofs.Common.{ℕ, List, length, drop, subst, sym, ◌∙◌}
+use Rattle.std.proofs.Common.{length, drop, ◌∙◌}
 use Rattle.std.proofs.lemmas.List.{take_at}
-use Rattle.flow.specs.Sending.{IsSending, AreDonorCounts}
 use Rattle.flow.proofs.Sending.{donors_begin}
 use Rattle.flow.proofs.streams.totals.Goals as goal
 

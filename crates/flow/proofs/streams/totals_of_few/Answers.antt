@@ -1,6 +1,5 @@
-use Rattle.std.proofs.Common.{◌≢◌, ℕ, ◌<◌, List, length, get_or, drop, subst, sym, ◌∙◌}
+use Rattle.std.proofs.Common.{length, drop, ◌∙◌}
 use Rattle.std.proofs.lemmas.List.{take_at}
-use Rattle.flow.specs.Sending.{IsSending, AreMarks, IsMarked}
 use Rattle.flow.proofs.Sending.{marks_begin}
 use Rattle.flow.proofs.streams.totals_of_few.Goals as goal
 

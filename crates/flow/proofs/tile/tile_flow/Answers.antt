@@ -1,7 +1,7 @@
-use Rattle.std.proofs.Common.{◌≡◌, ℕ, ◌^◌, ◌<◌, List, length, subst, sym, ap, refl, ◌∙◌, arith}
+use Rattle.std.proofs.Common.{◌≡◌, ℕ, List, length, sym, ap, refl, ◌∙◌, arith}
 use Rattle.std.specs.Prelude.{slice_index}
-use Rattle.flow.specs.Streams.{AreStreams, AreSums, total}
-use Rattle.flow.specs.TileFlow.{Flow, directed_by}
+use Rattle.flow.specs.Streams.{AreSums}
+use Rattle.flow.specs.TileFlow.{Flow}
 use Rattle.flow.specs.TileLinks.{links_by, weights_by, counts_by, with_counts}
 use Rattle.flow.proofs.Counted.{weights_size}
 use Rattle.flow.proofs.Piece.{lists_seen, streams, few, fits, sizes, counts_are, exits_kept}

@@ -3,7 +3,6 @@ use borrow.Author.Differences.{up, down}
 use Rattle.std.proofs.lemmas.Bool.{cases_lt, false≢true}
 use Rattle.std.proofs.lemmas.Int.{ints}
 use Rattle.std.proofs.lemmas.Option.{slice_get-get_or, slice_get_within}
-use Rattle.horizons.specs.declared.target.Target.{Target}
 use Rattle.horizons.proofs.Sizes.{back_short}
 use Rattle.sight.proofs.Ranking.{slopes_more}
 use Rattle.sight.proofs.ranks.are_sorted.Goals as goal

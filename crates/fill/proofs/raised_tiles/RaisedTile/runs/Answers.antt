@@ -18,7 +18,8 @@ loop-row-init c raised all = record {
 pub push_row-requires-clause-start : goal.push_row-requires-clause-start
 push_row-requires-clause-start c =
     let b = c.bounds-top.result in
-    let limits = bounds_limits c.args.view.now.cutting b c.bounds-top.ensures.lawful.cutting c.bounds-top.ensures.inside in
+    let e = c.bounds-top.ensures in
+    let limits = bounds_limits c.args.view.now.cutting b e.lawful.cutting e.inside in
     omega (
       arith,
       mul-le c.loop-row.row b.cols 4096 4096 (omega (arith, limits, c.loop-row-test.true)) (omega (arith, limits)),

@@ -1,6 +1,6 @@
 use Rattle.std.proofs.Common.{◌≡◌, length, Some, slice_get, refl, ap, ◌∙◌, arith}
 use Rattle.std.proofs.lemmas.Option.{slice_get_read}
-use Rattle.tiles.specs.Cutting.{Cutting, cell_count}
+use Rattle.tiles.specs.Cutting.{cell_count}
 use Rattle.tile_maps.proofs.Whole.{tile_of_entries}
 use Rattle.flow.specs.Counting.{IsCountAt}
 use Rattle.flow.proofs.Counted.{counts_size, entry_counted}

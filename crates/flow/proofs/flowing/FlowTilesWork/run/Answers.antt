@@ -1,5 +1,4 @@
-use Rattle.std.proofs.Common.{ℕ, Option, sym, subst}
-use Rattle.tiles.specs.Cutting.{View}
+use Rattle.std.proofs.Common.{sym, subst}
 use Rattle.drainage.specs.Drained.{AllFlowEnds}
 use Rattle.flow.specs.TileFlow.{directed_by}
 use Rattle.flow.proofs.flowing.FlowTilesWork.run.Goals as goal

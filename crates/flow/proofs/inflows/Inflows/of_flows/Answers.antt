@@ -1,11 +1,8 @@
-use Rattle.std.proofs.Common.{ℕ, List, length, drop, Option, IfSome, subst, sym, ap, ◌∙◌, arith}
+use Rattle.std.proofs.Common.{length, drop, sym, ap, ◌∙◌, arith}
 use Rattle.std.proofs.lemmas.List.{take_at}
-use Rattle.flow.specs.Sending.{AreZeros}
-use Rattle.terrain.specs.declared.place.Place.{Place}
-use Rattle.tiles.specs.Cutting.{IsWithin}
 use Rattle.tile_jobs.specs.Sums.{sum_below}
 use Rattle.tiles.specs.RimNumbers.{rim_number_count}
-use Rattle.flow.specs.Inflows.{AreEntering, entering}
+use Rattle.flow.specs.Inflows.{entering}
 use Rattle.tiles.proofs.RimNumbered.{few_numbers}
 use Rattle.flow.proofs.RimFlows.{links_size, rim_streams, target_listed, targets_size, targets_within}
 use Rattle.flow.proofs.RimTotals.{weights_size, total_few}

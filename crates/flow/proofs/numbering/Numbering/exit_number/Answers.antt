@@ -1,6 +1,4 @@
 use Rattle.std.proofs.Common.{get_or, None, sym, ap, ◌∙◌}
-use Rattle.terrain.specs.declared.place.Place.{Place}
-use Rattle.tiles.specs.declared.bounds.Bounds.{Bounds}
 use Rattle.tiles.specs.Cutting.{place_in}
 use Rattle.flow.specs.RimGraph.{listed_outlet}
 use Rattle.flow.specs.Numbering.{number_at}

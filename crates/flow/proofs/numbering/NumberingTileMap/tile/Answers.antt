@@ -1,8 +1,6 @@
-use Rattle.std.proofs.Common.{◌≡◌, ℕ, List, length, get_or, None, Some, slice_get, sym, ap, subst, refl, ◌∙◌, arith}
+use Rattle.std.proofs.Common.{◌≡◌, length, get_or, None, Some, slice_get, ap, refl, ◌∙◌, arith}
 use Rattle.std.proofs.lemmas.Option.{slice_get_read}
 use Rattle.std.proofs.lemmas.List.FromFn.{length-map-range_with_len}
-use Rattle.flow.specs.Streams.{AreEnds}
-use Rattle.flow.specs.TileLinks.{links_by}
 use Rattle.tile_maps.proofs.Whole.{tile_of_entries}
 use Rattle.flow.specs.Numbering.{IsEndNumberAt, exit_number_by, cell_number, cell_numbers_by}
 use Rattle.flow.proofs.Numbered.{entry_numbered}

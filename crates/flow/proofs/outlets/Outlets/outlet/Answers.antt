@@ -1,10 +1,9 @@
 use Rattle.std.proofs.Common.{◌≡◌, ◌<◌, true, false, length, get_or, None, subst, sym, ap, ◌∙◌, arith}
 use Rattle.std.proofs.lemmas.List.{get_or_default}
-use Rattle.terrain.specs.declared.place.Place.{Place}
 use Rattle.terrain.specs.Neighbours.{is_place}
 use Rattle.flow.specs.Whole.{is_outlet_code}
 use Rattle.tiles.specs.RimNumbers.{rim_number, rim_place}
-use Rattle.flow.specs.RimGraph.{code_in, Outlets, listed_outlet}
+use Rattle.flow.specs.RimGraph.{code_in, listed_outlet}
 use Rattle.flow.proofs.RimFlows.{outlet_listed, outlet_unlisted}
 use Rattle.flow.proofs.outlets.Outlets.outlet.Goals as goal
 

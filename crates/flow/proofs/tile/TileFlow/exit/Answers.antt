@@ -1,5 +1,5 @@
 use Rattle.std.proofs.Common.{ap, ◌∙◌}
-use Rattle.flow.specs.TileFlow.{Flow, exit_in}
+use Rattle.flow.specs.TileFlow.{exit_in}
 use Rattle.flow.proofs.tile.TileFlow.exit.Goals as goal
 
 pub returns : goal.returns

@@ -1,5 +1,5 @@
-use Rattle.std.proofs.Common.{◌≡◌, ℕ, ◌<◌, length, get_or, None, sym, ap, subst, ◌∙◌, arith}
-use Rattle.tiles.specs.Cutting.{IsInBounds, place_in, index_in}
+use Rattle.std.proofs.Common.{◌≡◌, ◌<◌, length, get_or, None, ap, subst, ◌∙◌, arith}
+use Rattle.tiles.specs.Cutting.{place_in, index_in}
 use Rattle.tiles.proofs.TileOrder.{index_in_below}
 use Rattle.flow.specs.TileFlow.{Flow}
 use Rattle.flow.specs.TileLinks.{ends_by}

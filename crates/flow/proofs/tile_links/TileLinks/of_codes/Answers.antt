@@ -1,4 +1,4 @@
-use Rattle.std.proofs.Common.{◌≡◌, ℕ, ◌*◌, ◌≤◌, List, Option, subst, arith}
+use Rattle.std.proofs.Common.{◌≡◌, ℕ, ◌*◌, ◌≤◌, List, Option, arith}
 use Rattle.tiles.specs.declared.bounds.Bounds.{Bounds}
 use Rattle.flow.specs.TileLinks.{AreFirstMoves}
 use Rattle.flow.proofs.Moved.{moves_fit, moved_links}
