@@ -19,6 +19,8 @@ from .styles import MARK
 
 # What SQLite keeps beside a database that is open, and would read into a new one of that name.
 JOURNALS = ("-wal", "-journal")
+# The names of layers that this package writes.
+LAYERS = {"gauges", "catchments", "streams"}
 
 
 @dataclass(frozen=True)
@@ -99,7 +101,7 @@ def is_writable(path: str) -> bool:
 
 
 def _check_content(path: str, kind: Kind) -> None:
-    """Refuses to replace a file of another kind, one of several layers, or one that is open."""
+    """Refuses to replace a file of another kind, one with other layers, or one that is open."""
     if not os.path.exists(path) or os.path.getsize(path) == 0:
         return
     # Before GDAL opens it, which may merge them.
@@ -110,16 +112,18 @@ def _check_content(path: str, kind: Kind) -> None:
             if gdal.IdentifyDriverEx(path, kind.gdal_kind) is None:
                 raise UsageError(f"{path} is there and is no {kind.content}: give the output another name, or remove "
                                  "the file")
-            if kind is VECTOR and not _is_plain(gdal.OpenEx(path)):
+            if kind is VECTOR and not _is_own(gdal.OpenEx(path)):
                 raise UsageError(f"{path} has other layers, which would be lost: give the output another name")
     except RuntimeError:
         # One that is cut off or damaged is replaced.
         return
 
 
-def _is_plain(dataset: gdal.Dataset) -> bool:
-    """Whether a GeoPackage has one layer at most, and no raster."""
-    return dataset.GetLayerCount() <= 1 and not dataset.RasterCount and not dataset.GetMetadata("SUBDATASETS")
+def _is_own(dataset: gdal.Dataset) -> bool:
+    """Whether a GeoPackage has at most one layer, of a name that this package writes, and no raster."""
+    layers = [dataset.GetLayer(at).GetName() for at in range(dataset.GetLayerCount())]
+    return (len(layers) <= 1 and LAYERS.issuperset(layers) and not dataset.RasterCount
+            and not dataset.GetMetadata("SUBDATASETS"))
 
 
 def style_path(target: str) -> str:

@@ -121,6 +121,9 @@ class Layers(Case):
         self.refuse(1, "dem.gpkg has other layers, which would be lost", "catchments", "dem.tif", "out.tif",
                     *at(10, 20), *self.snap, "dem.gpkg")
 
+    def test_one_layer_of_the_users(self):
+        self.refuse_gauges("gauges.gpkg has other layers, which would be lost", *at(10, 20), *self.snap, "gauges.gpkg")
+
     def test_other_layers(self):
         dataset = gdal.OpenEx(str(self.folder / "gauges.gpkg"), gdal.OF_UPDATE)
         dataset.CreateLayer("more")
