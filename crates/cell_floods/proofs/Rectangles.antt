@@ -1,12 +1,11 @@
 -- The paths in a rectangle of a terrain's cells are the walks of its net. So a flood of the net
--- finds the levels and the labels of the rectangle's cells. `HasFirstSinks` is for the list of
--- sinks, which is made place by place.
+-- finds the levels and the labels of the rectangle's cells.
 use Rattle.std.proofs.lemmas.Option.{MatchOption-at_some, MatchOption-at_none}
-use Rattle.std.proofs.Common.{◌≡◌, ◌≢◌, ℕ, zero, suc, ◌+◌, ◌-◌, ◌*◌, ◌<◌, ◌≤◌, ◌⊎◌, inl, inr, ℤ, pos, ◌≤ℤ◌, true, ◌||◌, List, [], ◌∷◌, length, get_or, Option, None, Some, IsSome, is_some, is_none, unwrap_or, ◌∙◌, sym, ap, subst, refl, arith, Bool, false, set}
+use Rattle.std.proofs.Common.{◌≡◌, ◌≢◌, ℕ, zero, suc, ◌+◌, ◌-◌, ◌*◌, ◌<◌, ◌≤◌, ◌⊎◌, inl, inr, ℤ, pos, ◌≤ℤ◌, true, ◌||◌, List, [], ◌∷◌, length, get_or, Option, None, Some, IsSome, is_some, is_none, unwrap_or, ◌∙◌, sym, ap, subst, refl, arith}
 use Rattle.std.specs.Int.{int_max}
 use Rattle.std.specs.Int.Signed.{≤ℤ_refl}
 use Rattle.std.proofs.lemmas.Int.{ints, clamps}
-use Rattle.std.proofs.lemmas.Bool.{cases_eq, cases_order, or_cases, or_left, or_right, cond-true, cond-false, cases_Bool, both_ways}
+use Rattle.std.proofs.lemmas.Bool.{cases_eq, cases_order, or_cases, or_left, or_right, cond-true, cond-false, cases_Bool}
 use Rattle.std.proofs.lemmas.Nat.{same_from_place}
 use Rattle.std.proofs.lemmas.List.Elements.{All-contains}
 use Rattle.std.proofs.lemmas.List.Folds.{Any-from_list_any, list_any_at}
@@ -20,7 +19,7 @@ use Rattle.drainage.specs.Filled.{IsPath, crest}
 use Rattle.drainage.proofs.Heights.{height_below_crest}
 use Rattle.drainage.proofs.FilledExists.{filled_height}
 use Rattle.tiles.specs.declared.bounds.Bounds.{Bounds}
-use Rattle.tiles.specs.Cutting.{IsInBounds, is_in_bounds}
+use Rattle.tiles.specs.Cutting.{IsInBounds}
 use Rattle.floods.specs.declared.net.Spill.{Spill}
 use Rattle.floods.specs.Walk.{IsWalk, walk_crest, last_node, IsFlooded}
 use Rattle.cell_floods.specs.Cells.{Cells, cell_at, node_at, IsNetOf, IsAfter, IsBeside, IsCellJoin, cells_around, has_gap_around, is_sink, source_of, last_cell}
@@ -28,9 +27,6 @@ use Rattle.terrain.proofs.Options.{some_inside}
 use Rattle.terrain.proofs.Options.{cases_option, none_some, none_done, none_from_is_some}
 use Rattle.cell_floods.proofs.CellArcs.{all_beside, beside_around}
 use Rattle.cell_floods.proofs.Borders.{above_row}
-use Rattle.std.specs.List.{Contains}
-use Rattle.std.proofs.lemmas.List.{length-set, get_or-set_same, get_or-set_other, get_or_default}
-use Rattle.tiles.proofs.Cut.{in_bounds_from}
 
 abbrev pub IsOnRim : Bounds → Place → Type 0
 IsOnRim w p = (p.row ≡ w.top) ⊎ (p.row + 1 ≡ w.top + w.rows) ⊎ (p.col ≡ w.left)
@@ -418,6 +414,20 @@ walk_of t w n net p (q ∷ rest) inside path =
       further.3,
     )
 
+-- Places of joined nodes are neighbours.
+pub joined_neighbours : (t : Terrain) (w : Bounds) (n : Cells) → IsNetOf t w n → (p q : Place)
+    (a b : ℕ) (h : ℤ) → IsInBounds w p → IsInBounds w q → node_at w p ≡ a → node_at w q ≡ b →
+    IsCellJoin n a b h → IsNeighbour t p q
+joined_neighbours t w n net p q a b h inside within from to join =
+    let near = beside_touch w p q inside within
+    (subst (λ s. IsBeside s (node_at w p) (node_at w q)) net.stride (rw (from, to) join.beside)) in
+    record {
+      different = near.1;
+      touches = near.0;
+      from_data = ap is_some (sym (net.inside p inside) ∙ ap (cell_at n) from ∙ join.from_cell);
+      to_data = ap is_some (sym (net.inside q within) ∙ ap (cell_at n) to ∙ join.to_cell);
+    }
+
 -- A walk of the net is a path in the rectangle, of equal crest and to the same end.
 pub path_of : (t : Terrain) (w : Bounds) (n : Cells) → IsNetOf t w n → (walk : List Spill)
     (p : Place) → IsInBounds w p → IsWalk (IsCellJoin n) (source_of n) (node_at w p) walk →
@@ -439,15 +449,8 @@ path_of t w n net (step ∷ steps) p inside walk =
     let from : height_at t p ≡ Some join.from_height = sym (net.inside p inside) ∙ join.from_cell in
     let to : height_at t q.0 ≡ Some join.to_height = sym (net.inside q.0 q.1) ∙ ap (cell_at n) q.2
     ∙ join.to_cell in
-    let near =
-    beside_touch w p q.0 inside q.1 (subst (λ s. IsBeside s (node_at w p) (node_at w q.0))
-    net.stride (subst (λ a. IsBeside n.stride (node_at w p) a) (sym q.2) join.beside)) in
-    let next : IsNeighbour t p q.0 = record {
-      different = near.1;
-      touches = near.0;
-      from_data = ap is_some from;
-      to_data = ap is_some to;
-    } in
+    let next = joined_neighbours t w n net p q.0 (node_at w p) step.to step.height inside q.1 refl q.2
+    join in
     let high : join.to_height ≤ℤ crest t q.0 further.0 = subst (λ z. z ≤ℤ crest t q.0 further.0)
     (height_is t q.0 join.to_height to) (height_below_crest t q.0 further.0) in (
       q.0 ∷ further.0,
@@ -547,54 +550,3 @@ rectangle_none t w n levels labels net flooded p inside none below =
           let path = path_of t w n net here.2.reached.0 p inside here.2.reached.1 in
           none_done (height_at t p) none (path_data t w p path.0 path.1)
     ]
-
--- `sinks` has a flag for each node of the rectangle and its border. Each place of the rectangle
--- whose flag is set is one of `places`. Of the first `count` of `places`, each in the rectangle has
--- its flag set.
-pub record HasFirstSinks (w : Bounds) (places : List Place) (count : ℕ) (sinks : List Bool) :
-    Type 0 where
-  pub size : length sinks ≡ (w.rows + 2) * (w.cols + 2)
-  pub only : (p : Place) → IsInBounds w p → is_sink sinks (node_at w p) ≡ true → Contains places p
-  pub every : (k : ℕ) (d : Place) → k < count → IsInBounds w (get_or places k d) →
-      is_sink sinks (node_at w (get_or places k d)) ≡ true
-
-pub one_more : (w : Bounds) (places : List Place) (i node : ℕ) (p d : Place) (sinks : List Bool) →
-    i < length places → get_or places i d ≡ p →
-    IsInBounds w p → node ≡ node_at w p → node < length sinks → HasFirstSinks w places i sinks →
-    HasFirstSinks w places (i + 1) (set sinks node true)
-one_more w places i node p d sinks below at inside is low s = record {
-  size = length-set sinks node true ∙ s.size;
-  only = λ q within e. elim (cases_eq (node_at w q) node) [
-    | inl same ↦ (
-      i,
-      below,
-      get_or_default places i q d below ∙ at ∙ sym (node_injective w q p within inside (same ∙ is)),
-    )
-    | inr other ↦ s.only q within (sym (get_or-set_other sinks node (node_at w q) true false other)
-        ∙ e)
-  ];
-  every = λ k e less within. elim (cases_eq (node_at w (get_or places k e)) node) [
-    | inl same ↦ ap (is_sink (set sinks node true)) same ∙ get_or-set_same sinks node true false low
-    | inr other ↦ elim (cases_eq k i) [
-      | inl last ↦ absurd (other (ap (λ n. node_at w (get_or places n e)) last
-          ∙ ap (node_at w) (get_or_default places i e d below ∙ at) ∙ sym is))
-      | inr before ↦ get_or-set_other sinks node (node_at w (get_or places k e)) true false other
-          ∙ s.every k e (omega (arith, less, before)) within
-    ]
-  ];
-}
-
-pub one_outside : (w : Bounds) (places : List Place) (i : ℕ) (p d : Place) (sinks : List Bool) →
-    i < length places → get_or places i d ≡ p → is_in_bounds w p ≡ false →
-    HasFirstSinks w places i sinks → HasFirstSinks w places (i + 1) sinks
-one_outside w places i p d sinks below at outside s = record {
-  size = s.size;
-  only = s.only;
-  every = λ k e less within. elim (cases_eq k i) [
-    | inl last ↦
-        let same = ap (λ n. get_or places n e) last ∙ get_or_default places i e d below ∙ at in
-        absurd (both_ways (is_in_bounds w p) outside
-        (in_bounds_from w p (subst (IsInBounds w) same within)))
-    | inr before ↦ s.every k e (omega (arith, less, before)) within
-  ];
-}

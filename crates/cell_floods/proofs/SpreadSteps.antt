@@ -6,7 +6,7 @@ use Rattle.std.specs.List.{All, count_by}
 use Rattle.std.proofs.lemmas.Bool.{cases_eq, cases_lt, false≢true}
 use Rattle.std.proofs.lemmas.Int.{ints, clamps}
 use Rattle.std.proofs.lemmas.List.{length-map, length-set, get_or-map, get_or-replicate, get_or-set_same, get_or-set_other, length-replicate}
-use Rattle.std.proofs.lemmas.List.Elements.{All-contains}
+use Rattle.std.proofs.lemmas.List.Elements.{All-contains, All-push}
 use Rattle.std.proofs.lemmas.List.Sums.{sum_by-set}
 use Rattle.std.proofs.lemmas.Option.{same_Some}
 use Rattle.terrain.proofs.Options.{cases_option, none_done, none_some, some_inside}
@@ -17,8 +17,9 @@ use Rattle.floods.specs.Walk.{HasNoSource, IsFlooded, IsWalk, walk_crest}
 use Rattle.floods.proofs.Heaps.{replicated}
 use Rattle.floods.proofs.LabelNumbers.{is_label}
 use Rattle.cell_floods.specs.Cells.{Cells, IsBeside, IsBordered, IsCellJoin, cell_at, cells_around, has_gap_around, is_sink, source_of}
-use Rattle.cell_floods.specs.Spreading.{AreSourcesLabelled, HasLevelUpTo, HasSources, HasSpread, HasWalkTo, IsPart, IsPartFlood, Keeps, Reaches, Spreads, number_of, work_of}
+use Rattle.cell_floods.specs.Spreading.{AreMeetings, AreSourcesLabelled, HasLevelUpTo, HasSources, HasSpread, HasWalkTo, IsNodeMeeting, IsPart, IsPartFlood, Keeps, Reaches, Spreads, number_of, work_of}
 use Rattle.cell_floods.specs.declared.spreading.Spreading.{Spreading}
+use Rattle.cell_floods.specs.declared.tile.Meeting.{Meeting}
 use Rattle.cell_floods.proofs.CellArcs.{beside_around}
 use Rattle.cell_floods.proofs.TileRectangles.{walk_end_below}
 
@@ -43,6 +44,21 @@ walk_cell n a [] source = elim (cases_option (source_of n a)) [
   | inr found ↦ (found.0, source_cell n a found.0 found.1)
 ]
 walk_cell n a (step ∷ rest) walk = (walk.0.from_height, walk.0.from_cell)
+
+-- The label of a labelled node is a node, which its number stores.
+pub label_stored : (now : ℤ) (n : Cells) (levels : List (Option ℤ)) (labels : List ℕ)
+    (flags : List Bool) (a : ℕ) (level : ℤ) → IsPart now n levels labels flags →
+    length n.cells ≤ 16793604 → entry_of levels a ≡ Some level → (number_of labels a < no_label)
+    × (get_or (numbered_labels labels) a None ≡ Some (number_of labels a))
+label_stored now n levels labels flags a level s few e =
+    let below = some_inside levels a level e in
+    let reached = s.reached a level e in
+    let end = walk_end_below n a reached.0 (omega (arith, below, s.levels_size)) reached.1 in
+    let small : number_of labels a < no_label = omega (arith, end, reached.3, few) in (
+      small,
+      get_or-map label_of labels a 0 None (omega (arith, below, s.levels_size, s.labels_size))
+          ∙ is_label (number_of labels a) small,
+    )
 
 -- A later level changes nothing.
 pub later : (now next : ℤ) (n : Cells) (levels : List (Option ℤ)) (labels : List ℕ)
@@ -242,22 +258,18 @@ module _ (now : ℤ) (n : Cells) (levels : List (Option ℤ)) (labels : List ℕ
     levels_size = s.levels_size;
     labels_size = length-map labels label_of ∙ s.labels_size;
     each = λ a below.
-        let label_at = get_or-map label_of labels a 0 None (omega (arith, below, s.labels_size)) in
         elim (cases_option (entry_of levels a)) [
           | inl none ↦ rw none (
             λ walk is. let l = walked walk a is in none_some (entry_of levels a) l.0 none l.1,
-            label_at ∙ ap label_of (s.none a below none),
+            get_or-map label_of labels a 0 None (omega (arith, below, s.labels_size))
+                ∙ ap label_of (s.none a below none),
           )
           | inr found ↦
-              let reached = s.reached a found.0 found.1 in
-              let end = walk_end_below n a reached.0 below reached.1 in
-              let few : number_of labels a < no_label =
-              omega (arith, end, reached.3, bordered.few) in
               rw found.1 (
                 number_of labels a,
-                label_at ∙ is_label (number_of labels a) few,
+                (label_stored now n levels labels flags a found.0 s bordered.few found.1).1,
                 record {
-                  reached = reached;
+                  reached = s.reached a found.0 found.1;
                   least = λ walk is.
                       let l = walked walk a is in
                       let same = same_Some found.0 l.0 (sym found.1 ∙ l.1) in
@@ -365,10 +377,11 @@ sources_are n levels labels flags s a h is =
     (level, (s.only a h level).1)
 
 -- Nodes spread at a level: none of them, and some after others.
-pub spreads_none : (now : ℤ) (x : Spreading) → IsPartFlood now x → Spreads now x x
-spreads_none now x part = record {
+pub spreads_none : (now : ℤ) (x : Spreading) → IsPartFlood now x → AreMeetings x → Spreads now x x
+spreads_none now x part meetings = record {
   net = refl;
   part = part;
+  meetings = meetings;
   kept = λ a level e. (e, refl);
   work = omega arith;
 }
@@ -378,6 +391,7 @@ pub spreads_then : (now : ℤ) (x y z : Spreading) → Spreads now x y → Sprea
 spreads_then now x y z one other = record {
   net = other.net ∙ one.net;
   part = other.part;
+  meetings = other.meetings;
   kept = λ a level e.
       let first = one.kept a level e in
       let second = other.kept a level first.0 in
@@ -430,6 +444,85 @@ reached now p to x y s level_is beside step = elim step.done [
             (omega (arith, s.levels_size, some_inside x.net.now.cells to label.height label.cell)))));
       }
 ]
+
+-- A meeting stays where labelled nodes keep their levels and labels.
+meeting_kept : (x y : Spreading) (m : Meeting) → Keeps x y → y.net.now ≡ x.net.now →
+    length x.labels.items ≡ length x.levels.items → length y.labels.items ≡ length x.levels.items →
+    IsNodeMeeting x.net.now x.levels.items (numbered_labels x.labels.items) m →
+    IsNodeMeeting y.net.now y.levels.items (numbered_labels y.labels.items) m
+meeting_kept x y m kept net long next is = rw net (record {
+  from = is.from;
+  to = is.to;
+  height = is.height;
+  from_level = is.from_level;
+  to_level = is.to_level;
+  join = is.join;
+  from_label = label is.from is.from_level is.from_is ∙ is.from_label;
+  to_label = label is.to is.to_level is.to_is ∙ is.to_label;
+  from_is = (kept is.from is.from_level is.from_is).0;
+  to_is = (kept is.to is.to_level is.to_is).0;
+  greater = is.greater;
+}) where
+  label : (a : ℕ) (level : ℤ) → entry_of x.levels.items a ≡ Some level →
+      get_or (numbered_labels y.labels.items) a None
+      ≡ get_or (numbered_labels x.labels.items) a None
+  label a level e =
+      let low = some_inside x.levels.items a level e in
+      get_or-map label_of y.labels.items a 0 None (omega (arith, low, next))
+      ∙ ap label_of (kept a level e).1
+      ∙ sym (get_or-map label_of x.labels.items a 0 None (omega (arith, low, long)))
+
+module _ (now : ℤ) (p to : ℕ) (x y : Spreading) (s : IsPartFlood now x)
+    (few : length x.net.now.cells ≤ 16793604) (level_is : entry_of x.levels.items p ≡ Some now)
+    (beside : IsBeside x.net.now.stride p to) where
+  meeting_now : HasLevelUpTo x.levels.items to now →
+      IsNodeMeeting x.net.now x.levels.items (numbered_labels x.labels.items) (record {
+        from = number_of x.labels.items p;
+        to = number_of x.labels.items to;
+        level = now;
+      })
+  meeting_now up_to =
+      let own = s.reached p now level_is in
+      let from = walk_cell x.net.now p own.0 own.1 in
+      let other = s.reached to up_to.0 up_to.1 in
+      let there = walk_cell x.net.now to other.0 other.1 in
+      record {
+        from = p;
+        to = to;
+        height = int_max there.0 from.0;
+        from_level = now;
+        to_level = up_to.0;
+        join = record {
+          beside = beside;
+          from_height = from.0;
+          to_height = there.0;
+          from_cell = from.1;
+          to_cell = there.1;
+          greater = refl;
+        };
+        from_label = (label_stored now _ _ _ _ p now s few level_is).1;
+        to_label = (label_stored now _ _ _ _ to up_to.0 s few up_to.1).1;
+        from_is = level_is;
+        to_is = up_to.1;
+        greater = omega (arith, ints, clamps, up_to.2);
+      }
+
+  -- Meetings stay when a node at the level `now` reaches one beside it, and a new one is such too.
+  pub meetings_reached : Reaches now (number_of x.labels.items p) to x y → IsReached now to x y →
+      AreMeetings x → AreMeetings y
+  meetings_reached step done met =
+      let P = IsNodeMeeting y.net.now y.levels.items (numbered_labels y.labels.items) in
+      let long : length y.labels.items ≡ length x.levels.items =
+      omega (arith, done.part.labels_size, s.levels_size, ap (λ (n : Cells). length n.cells) step.net) in
+      let stays = λ (m : Meeting). meeting_kept x y m done.kept step.net
+      (omega (arith, s.labels_size, s.levels_size)) long in
+      let old : All P x.meetings.items = λ k d low.
+      stays (get_or x.meetings.items k d) (met k d low) in
+      elim step.meetings [
+        | inl same ↦ subst (All P) (sym same) old
+        | inr new ↦ subst (All P) (sym new.meetings)
+            (All-push P x.meetings.items _ old (stays _ (meeting_now new.up_to)))
+      ]
 
 pub met_kept : (n : Cells) (levels next : List (Option ℤ)) (now : ℤ) (b : ℕ) →
     ((a : ℕ) (level : ℤ) → entry_of levels a ≡ Some level → entry_of next a ≡ Some level) →

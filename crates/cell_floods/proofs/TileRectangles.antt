@@ -113,7 +113,7 @@ place_back b p i =
     (mod-mul-add (p.row - b.top + 1) (b.cols + 2) (p.col - b.left + 1) col) ∙ omega (arith, i))
 
 -- At a place, the inner rows of a bordered list have the list's entry at the place's node.
-inner_entry : {X : Type 0} (b : Bounds) (list : List (Option X)) (p : Place) →
+pub inner_entry : {X : Type 0} (b : Bounds) (list : List (Option X)) (p : Place) →
     length list ≡ (b.rows + 2) * (b.cols + 2) → IsInBounds b p →
     entry_in b (inner_rows list b.cols b.rows) p ≡ get_or list (node_at b p) None
 inner_entry b list p size i =
@@ -127,6 +127,16 @@ mapped_entry b xs p size i =
     entry_in-inside b (map (label_of_node b) xs) p i
     ∙ get_or-map (label_of_node b) xs _ None None (omega (arith, size, index_in_below b p i))
     ∙ ap (label_of_node b) (sym (entry_in-inside b xs p i))
+
+-- At a place, the inner rows of a bordered list of labels have the label at the place's node.
+pub label_entry : (b : Bounds) (labels : List (Option ℕ)) (p : Place) →
+    length labels ≡ (b.rows + 2) * (b.cols + 2) → IsInBounds b p →
+    entry_in b (map (label_of_node b) (inner_rows labels b.cols b.rows)) p
+    ≡ label_of_node b (get_or labels (node_at b p) None)
+label_entry b labels p size i =
+    mapped_entry b (inner_rows labels b.cols b.rows) p
+    (length-inner_rows labels b.cols b.rows (omega (arith, size))) i
+    ∙ ap (label_of_node b) (inner_entry b labels p size i)
 
 -- Each data cell of the tile has its level and its label in these lists, other cells have None. `b`
 -- has the tile's bounds, which lie within 4,096 by 4,096 cells.
@@ -164,9 +174,7 @@ tile_flooded t c tile n levels labels h l cuts net flooded =
       each = λ p i.
           let inside = in_bounds c tile p h i in
           let level = inner_entry b levels p size inside in
-          let node = inner_entry b labels p labels_long inside in
-          let label = mapped_entry b (inner_rows labels b.cols b.rows) p (length-inner_rows labels
-          b.cols b.rows (omega (arith, labels_long))) inside ∙ ap (label_of_node b) node in
+          let label = label_entry b labels p labels_long inside in
           match_of (height_at t p) _ _
           (λ none.
           let both = rectangle_none t b n levels labels net flooded p inside none

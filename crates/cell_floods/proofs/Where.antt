@@ -90,12 +90,10 @@ both_or_neither t c tile b levels labels h l is i = elim (cases_lt i (b.rows * b
 pub levels_where_are : (t : Terrain) (c : Cutting) (tile : ℕ) (b : Bounds)
     (levels : List (Option ℤ)) (labels : List (Option Place)) (heights : List ℤ) → IsCutting c →
     tile < tile_count c → heights ≡ map height_or_lack levels
-    → AreTileLevels t c tile b levels labels →
-    AreTileLevels t c tile b (levels_where labels heights) labels
+    → AreTileLevels t c tile b levels labels → levels_where labels heights ≡ levels
 levels_where_are t c tile b levels labels heights h l are is =
-    subst (λ (zs : List (Option ℤ)). AreTileLevels t c tile b zs labels)
-    (sym (ap (levels_where labels) are ∙ levels_back labels levels (is.labels_size
-    ∙ sym is.levels_size) (both_or_neither t c tile b levels labels h l is))) is
+    ap (levels_where labels) are ∙ levels_back labels levels (is.labels_size ∙ sym is.levels_size)
+    (both_or_neither t c tile b levels labels h l is)
 
 label_data : (t : Terrain) (c : Cutting) (p : Place) (rest : List Place) → IsTilePath t c p rest →
     IsDataCell t (last_cell p rest)

@@ -2,10 +2,11 @@
 -- Public.
 use Rattle.std.specs.Prelude.{◌≡◌, ℕ, ◌+◌, ◌<◌, ◌≤◌, ◌⊎◌, ◌==◌, true, List, [], ◌∷◌, ◌++◌, map, length, Option, None, Some, IsSome, slice_index_or}
 use Rattle.std.specs.Option.{option_map}
-use Rattle.std.specs.List.{All, list_any}
+use Rattle.std.specs.List.{All, Contains, list_any}
 use Rattle.terrain.specs.declared.place.Place.{Place}
 use Rattle.tiles.specs.declared.bounds.Bounds.{Bounds}
 use Rattle.cell_floods.specs.Cells.{place_of_node}
+use Rattle.cell_floods.specs.declared.tile.Meeting.{Meeting}
 
 -- A table of labels, and the index of each cell's label in it.
 pub record LabelTable : Type 0 where
@@ -46,3 +47,15 @@ pub record IsListedAt (index : ℕ) (entry : Option Place)
   pub inside : index < length new
   pub is : slice_index_or new index None ≡ entry
   pub only : (new ≡ old) ⊎ ((index ≡ length old) × (new ≡ old ++ entry ∷ []) × IsSome entry)
+
+-- The meeting `nodes` is of two nodes, and `m` of their indexes by `met`, which are not 0.
+pub record IsIndexed (met : List ℕ) (nodes m : Meeting) : Type 0 where
+  pub from_some : 0 < m.from
+  pub to_some : 0 < m.to
+  pub from : slice_index_or met nodes.from 0 ≡ m.from
+  pub to : slice_index_or met nodes.to 0 ≡ m.to
+  pub level : nodes.level ≡ m.level
+
+-- The meeting is one of these meetings of nodes, by the nodes' indexes.
+abbrev pub IsIndexedOf : List ℕ → List Meeting → Meeting → Type 0
+IsIndexedOf met meetings m = (nodes : Meeting) × Contains meetings nodes × IsIndexed met nodes m

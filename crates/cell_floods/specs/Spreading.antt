@@ -1,9 +1,9 @@
 -- The state of a flood that labels nodes while it takes them by height. A labelled node has a level
 -- and a label. It spreads: it gives its label to the unlabelled data cells around it.
 -- Private.
-use Rattle.std.specs.Prelude.{◌≡◌, ℕ, ◌+◌, ◌*◌, ◌<◌, ◌≤◌, ◌⊎◌, ℤ, ◌≤ℤ◌, Bool, true, false, List, length, map, set, Option, None, Some, IsSome, is_none, slice_index_or, unwrap_or}
+use Rattle.std.specs.Prelude.{◌≡◌, ℕ, ◌+◌, ◌*◌, ◌<◌, ◌≤◌, ◌⊎◌, ℤ, ◌≤ℤ◌, Bool, true, false, List, [], ◌∷◌, ◌++◌, length, map, set, Option, None, Some, IsSome, is_none, slice_index_or, unwrap_or}
 use Rattle.std.specs.Int.{int_max}
-use Rattle.std.specs.List.{count_by}
+use Rattle.std.specs.List.{All, count_by}
 use Rattle.terrain.specs.StoredCells.{no_data}
 use Rattle.tiles.specs.declared.bounds.Bounds.{Bounds}
 use Rattle.floods.specs.declared.net.Spill.{Spill}
@@ -12,6 +12,7 @@ use Rattle.floods.specs.Notes.{height_or_lack, no_label, numbered_labels}
 use Rattle.floods.specs.Walk.{IsFlooded, IsWalk, walk_crest, last_node}
 use Rattle.cell_floods.specs.Cells.{Cells, IsCellJoin, cell_at, inner_rows, source_of}
 use Rattle.cell_floods.specs.declared.spreading.Spreading.{Spreading}
+use Rattle.cell_floods.specs.declared.tile.Meeting.{Meeting}
 
 -- The label of node a, as stored.
 abbrev pub number_of : List ℕ → ℕ → ℕ
@@ -50,6 +51,27 @@ pub record IsPart (now : ℤ) (n : Cells) (levels : List (Option ℤ)) (labels :
 -- `IsPart` holds for the lists of the state.
 abbrev pub IsPartFlood : ℤ → Spreading → Type 0
 IsPartFlood now x = IsPart now x.net.now x.levels.items x.labels.items x.has_spread.items
+
+-- Two joined nodes have the labels of the meeting, which are nodes too. The greater of their levels
+-- is that of the meeting.
+pub record IsNodeMeeting (n : Cells) (levels : List (Option ℤ)) (labels : List (Option ℕ))
+    (m : Meeting) : Type 0 where
+  pub from : ℕ
+  pub to : ℕ
+  pub height : ℤ
+  pub from_level : ℤ
+  pub to_level : ℤ
+  pub join : IsCellJoin n from to height
+  pub from_label : slice_index_or labels from None ≡ Some m.from
+  pub to_label : slice_index_or labels to None ≡ Some m.to
+  pub from_is : entry_of levels from ≡ Some from_level
+  pub to_is : entry_of levels to ≡ Some to_level
+  pub greater : int_max from_level to_level ≡ m.level
+
+-- `IsNodeMeeting` holds for each meeting of the state's list.
+abbrev pub AreMeetings : Spreading → Type 0
+AreMeetings x = All (IsNodeMeeting x.net.now x.levels.items (numbered_labels x.labels.items))
+    x.meetings.items
 
 -- Only sources are labelled, and all of those below `count`: each has its height as level, and
 -- itself as label. No node has spread.
@@ -96,16 +118,24 @@ pub record Labels (level : ℤ) (label to : ℕ) (old new : Spreading) : Type 0 
   pub labels : new.labels.items ≡ set old.labels.items to label
   pub waiting : length new.waiting.items ≤ length old.waiting.items + 1
 
+-- The meeting of this label with that of node `to`, whose level is at most `level`, is new.
+pub record Meets (level : ℤ) (label to : ℕ) (old new : Spreading) : Type 0 where
+  pub up_to : HasLevelUpTo old.levels.items to level
+  pub meetings : new.meetings.items ≡ old.meetings.items
+      ++ record { from = label; to = number_of old.labels.items to; level = level } ∷ []
+
 -- A node of this level and label reached node `to`.
 pub record Reaches (level : ℤ) (label to : ℕ) (old new : Spreading) : Type 0 where
   pub net : new.net.now ≡ old.net.now
   pub flags : new.has_spread.items ≡ old.has_spread.items
+  pub meetings : (new.meetings.items ≡ old.meetings.items) ⊎ Meets level label to old new
   pub done : Passes to old new ⊎ Labels level label to old new
 
 -- Nodes have spread at the level `now`.
 pub record Spreads (now : ℤ) (old new : Spreading) : Type 0 where
   pub net : new.net.now ≡ old.net.now
   pub part : IsPartFlood now new
+  pub meetings : AreMeetings new
   pub kept : Keeps old new
   pub work : work_of new ≤ work_of old
 
@@ -113,11 +143,14 @@ pub record Spreads (now : ℤ) (old new : Spreading) : Type 0 where
 abbrev pub level_of : Spreading → ℕ → ℤ
 level_of x a = unwrap_or (entry_of x.levels.items a) no_data
 
--- Inside the border of the net's lists, the numbers store the levels and labels of a flood.
-pub record AreFlooded (n : Cells) (b : Bounds) (heights : List ℤ) (nodes : List ℕ) : Type 0 where
+-- Inside the border of the net's lists, the numbers store the levels and labels of a flood, whose
+-- labels have these meetings.
+pub record AreFlooded (n : Cells) (b : Bounds) (heights : List ℤ) (nodes : List ℕ)
+    (meetings : List Meeting) : Type 0 where
   pub levels : List (Option ℤ)
   pub labels : List (Option ℕ)
   pub flooded : IsFlooded (IsCellJoin n) (source_of n) (length n.cells) levels labels
+  pub meetings_are : All (IsNodeMeeting n levels labels) meetings
   pub heights_are : heights ≡ map height_or_lack (inner_rows levels b.cols b.rows)
   pub nodes_are : numbered_labels nodes ≡ inner_rows labels b.cols b.rows
 

@@ -2,6 +2,7 @@
 -- tile. A label is the end cell or rim cell where a path of that crest ends.
 -- Public.
 use Rattle.std.specs.Prelude.{◌≡◌, ℕ, ◌*◌, ◌⊎◌, ℤ, ◌≤ℤ◌, List, [], ◌∷◌, length, Option, None, Some, IsTrue, MatchOption, option_map, slice_index_or}
+use Rattle.std.specs.Int.{int_max}
 use Rattle.terrain.specs.Raster.{Terrain}
 use Rattle.terrain.specs.Neighbours.{height_at, IsDataCell, IsNeighbour, IsEnd}
 use Rattle.drainage.specs.Filled.{crest}
@@ -9,6 +10,7 @@ use Rattle.terrain.specs.declared.place.Place.{Place}
 use Rattle.tiles.specs.declared.bounds.Bounds.{Bounds}
 use Rattle.cell_floods.specs.Cells.{last_cell}
 use Rattle.cell_floods.specs.Labels.{LabelTable, IsTable, labels_by}
+use Rattle.cell_floods.specs.declared.tile.Meeting.{Meeting}
 use Rattle.tiles.specs.Cutting.{Cutting, IsWithinLimits, tile_of_place, bounds_of, is_on_rim, entry_in, IsInTile, cell_count}
 
 -- A source of a tile: a data cell on its rim, or an end cell.
@@ -97,3 +99,17 @@ pub record IsTileFlood (t : Terrain) (c : Cutting) (tile : ℕ) (f : Flood) : Ty
       (λ _. (level : ℤ) × (label : Place) × (level_in f p ≡ Some level)
       × (label_in f p ≡ Some label) × IsTileLevel t c p level label)
   pub ends : AreEndHeights t f.table.places f.ends
+
+-- Two neighbouring cells have the labels at these indexes of the table. The greater of their levels
+-- is that of the meeting.
+pub record IsMeeting (t : Terrain) (f : Flood) (m : Meeting) : Type 0 where
+  pub from : Place
+  pub to : Place
+  pub from_level : ℤ
+  pub to_level : ℤ
+  pub neighbours : IsNeighbour t from to
+  pub from_label : label_in f from ≡ slice_index_or f.table.places m.from None
+  pub to_label : label_in f to ≡ slice_index_or f.table.places m.to None
+  pub from_is : level_in f from ≡ Some from_level
+  pub to_is : level_in f to ≡ Some to_level
+  pub greater : int_max from_level to_level ≡ m.level

@@ -258,8 +258,20 @@ impl CellNet {
         ensures value { result ≡ cells_around self.now.stride node }
         ensures inside { All (λ b. b < length self.now.cells) result }
         ensures above { self.now.stride < node }
+        ensures few { length self.now.cells ≤ 16793604 }
     {
         around(self.stride, node)
+    }
+
+    /// Returns whether a data cell is on the rim of the rectangle.
+    pub(crate) fn is_on_rim(&self, node: u32) -> bool {
+        // No net has a stride of 0: the greater of it and 1 spares a proof.
+        let col = node % self.stride.max(1);
+        let rows = 2 * self.stride as usize;
+        col == 1
+            || col + 2 == self.stride
+            || (node as usize) < rows
+            || node as usize + rows >= self.cells.len()
     }
 
     /// Returns a node from `from` on, or the node count.

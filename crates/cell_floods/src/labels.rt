@@ -4,8 +4,9 @@ ghost use Rattle.tiles.specs.Cutting.{IsWithinLimits};
 ghost use Rattle.cell_floods.specs.Cells.{place_of_node};
 ghost use Rattle.floods.specs.Notes.{numbered_labels};
 ghost use Rattle.cell_floods.specs.Indexes.{indexes_stored};
-ghost use Rattle.cell_floods.specs.Labels.{IsTable, AreMet, AreNodesBelow, IsListedAt, label_of_node, labels_by};
+ghost use Rattle.cell_floods.specs.Labels.{IsTable, AreMet, AreNodesBelow, IsIndexed, IsIndexedOf, IsListedAt, label_of_node, labels_by};
 
+use crate::tile::Meeting;
 use floods::label_of;
 use std::alloc::{AllocError, Global};
 use std::marker::Model;
@@ -31,6 +32,14 @@ pub struct Labels {
     places: Vec<Option<Place>>,
     indexes: Indexes,
     ghost table: { IsTable places.items (indexes_stored indexes) },
+}
+
+/// The labels of a tile's cells, and the index in their table for each node of the tile's net.
+#[derive(Drop)]
+pub(crate) struct IndexedLabels {
+    pub(crate) labels: Labels,
+    /// For each node its index, if it is a label, else 0.
+    pub(crate) met: Vec<u32>,
 }
 
 impl Model for Labels {
@@ -169,24 +178,74 @@ fn stored_indexes(alloc: Global, length: usize, indexes: Vec<u32>) -> Result<Ind
 /// Makes the table of a tile's labels, and each cell's index into it.
 /// `nodes` has for each cell a number that [`label_of`] decodes: to the cell's label, as a node of
 /// the tile's net, or to `None`.
-pub(crate) fn labels_of(alloc: Global, bounds: Bounds, nodes: &[u32]) -> Result<Labels, AllocError>
+pub(crate) fn labels_of(
+    alloc: Global,
+    bounds: Bounds,
+    nodes: Vec<u32>,
+) -> Result<IndexedLabels, AllocError>
     requires limits { IsWithinLimits bounds }
-    requires size { length nodes.now ≡ bounds.rows * bounds.cols }
+    requires size { length nodes.items ≡ bounds.rows * bounds.cols }
     requires nodes { AreNodesBelow ((bounds.rows + 2) * (bounds.cols + 2))
-        (numbered_labels nodes.now) }
-    ensures labels { IfOk result (λ labels.
-        labels_by labels.places labels.indexes
-        ≡ map (label_of_node bounds) (numbered_labels nodes.now)) }
-    ensures table { IfOk result (λ labels. IsTable labels.places labels.indexes) }
+        (numbered_labels nodes.items) }
+    ensures labels { IfOk result (λ x.
+        labels_by x.labels.places x.labels.indexes
+        ≡ map (label_of_node bounds) (numbered_labels nodes.items)) }
+    ensures table { IfOk result (λ x. IsTable x.labels.places x.labels.indexes) }
+    ensures met { IfOk result (λ x. AreMet bounds x.met.items x.labels.places) }
 {
     let count = (bounds.rows as usize + 2) * (bounds.cols as usize + 2);
     let mut met = vec![in alloc; NO_LABEL; count]?;
     let mut places = empty_table(alloc, bounds)?;
     let mut indexes = Vec::with_capacity(alloc, nodes.len())?;
-    for node in nodes {
+    for node in &nodes {
         let index = index_of_label(&mut places, &mut met, bounds, label_of(*node))?;
         indexes.push(index)?;
     }
     let indexes = stored_indexes(alloc, places.len(), indexes)?;
-    Ok(Labels { places, indexes })
+    Ok(IndexedLabels {
+        labels: Labels { places, indexes },
+        met,
+    })
+}
+
+/// Returns the index in the table of a label, given by its node; `None` if it is no cell's label.
+#[inline(always)]
+fn index_of_node(met: &[u32], node: u32) -> Option<u32>
+    ensures { IfSome result (λ index. (0 < index) × (slice_index_or met.now node 0 ≡ index)) }
+{
+    let index = *met.get(node as usize)?;
+    if index == NO_LABEL {
+        return None;
+    }
+    Some(index)
+}
+
+/// Returns a meeting of nodes as a meeting of their indexes in the table.
+#[inline(always)]
+fn indexed(met: &[u32], meeting: Meeting) -> Option<Meeting>
+    ensures { IfSome result (IsIndexed met.now meeting) }
+{
+    Some(Meeting {
+        from: index_of_node(met, meeting.from)?,
+        to: index_of_node(met, meeting.to)?,
+        level: meeting.level,
+    })
+}
+
+/// Returns meetings of nodes as meetings of their indexes in the table of labels.
+/// `met` has each label's index by its node, and 0 for other nodes.
+pub(crate) fn indexed_meetings(
+    alloc: Global,
+    met: Vec<u32>,
+    meetings: Vec<Meeting>,
+) -> Result<Vec<Meeting>, AllocError>
+    ensures { IfOk result (λ v. All (IsIndexedOf met.items meetings.items) v.items) }
+{
+    let mut found = Vec::with_capacity(alloc, meetings.len())?;
+    for meeting in &meetings {
+        if let Some(meeting) = indexed(&met, *meeting) {
+            found.push(meeting)?;
+        }
+    }
+    Ok(found)
 }

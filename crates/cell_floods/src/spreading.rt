@@ -5,21 +5,26 @@
 //! the greater of its height and the node's level. Cells at the node's level spread next, higher
 //! ones in their turn.
 //!
+//! Two labels meet where a node that spreads finds a node with another label. Meetings are listed
+//! unless the two labels have met before, if only by way of others.
+//!
 //! The order of the nodes carries no promise. So the end certifies the flood: there is none where a
 //! node was taken below the level that the flood had come to, or where a labelled one did not
 //! spread.
-ghost use Rattle.std.specs.Prelude.{◌≡◌, ◌<◌, ℕ, ℤ, IfOk, IfSome, IsSome, OnOk, Some, false, length, slice_index_or, true, unwrap_or};
+ghost use Rattle.std.specs.Prelude.{◌≡◌, ◌<◌, [], ℕ, ℤ, All, IfOk, IfSome, IsSome, OnOk, Some, false, length, slice_index_or, true, unwrap_or};
 ghost use Rattle.std.specs.Bool.{OnTrue};
 ghost use Rattle.std.specs.Int.{int_max};
 ghost use Rattle.terrain.specs.StoredCells.{no_data};
 ghost use Rattle.floods.specs.Flood.{entry_of};
-ghost use Rattle.floods.specs.Notes.{numbered_labels};
+ghost use Rattle.floods.specs.Notes.{no_label, numbered_labels};
 ghost use Rattle.floods.specs.Walk.{IsFlooded};
 ghost use Rattle.cell_floods.specs.Cells.{IsCellJoin, source_of};
-ghost use Rattle.cell_floods.specs.Spreading.{HasSources, IsPartFlood, Reaches, Spreads, level_of};
+ghost use Rattle.cell_floods.specs.Spreading.{AreMeetings, HasSources, IsNodeMeeting, IsPartFlood, Reaches, Spreads, level_of};
 
 use crate::cell_net::CellNet;
+use crate::label_sets::LabelSets;
 use crate::node_order::{first_height, nodes_by_height};
+use crate::tile::Meeting;
 use floods::Net;
 use std::alloc::{AllocError, Global};
 use terrain::{Cell, Height};
@@ -27,11 +32,17 @@ use terrain::{Cell, Height};
 /// The number stored for a node without a label; [`floods::label_of`] decodes labels.
 const NO_LABEL: u32 = u32::MAX;
 
+/// A node of the border, whose set has all sources inside the rim. These are end cells, and no way
+/// from one end cell to another is of use.
+const ENDS: u32 = 0;
+
 /// The level of each node of a net, and the number that stores its label.
 #[derive(Drop)]
 pub(crate) struct NodeFlood {
     pub(crate) levels: Vec<Cell>,
     pub(crate) labels: Vec<u32>,
+    /// Meetings of labels, which are given by their nodes.
+    pub(crate) meetings: Vec<Meeting>,
     /// The lowest height.
     pub(crate) lowest: Height,
 }
@@ -45,6 +56,9 @@ struct Spreading<'a> {
     has_spread: Vec<bool>,
     /// Nodes at the level that the flood has come to, which are to spread.
     waiting: Vec<u32>,
+    meetings: Vec<Meeting>,
+    /// The sets of labels that have met.
+    sets: LabelSets,
 }
 
 /// Returns the higher of two cells with data.
@@ -60,12 +74,20 @@ fn higher(cell: Cell, level: Cell) -> Cell
     }
 }
 
+/// Unites a source with the end cells unless it is on the rim.
+fn unite_ends(sets: &mut LabelSets, net: &CellNet, source: u32) {
+    if !net.is_on_rim(source) {
+        sets.unite(ENDS, source);
+    }
+}
+
 impl<'a> Spreading<'a> {
     /// Makes the state before any node is labelled.
     fn of_unlabelled(alloc: Global, net: &'a CellNet) -> Result<Self, AllocError>
         ensures net { IfOk result (λ x. x.net.now ≡ net.now) }
         ensures sources { IfOk result (λ x.
             HasSources 0 net.now x.levels.items x.labels.items x.has_spread.items) }
+        ensures meetings { IfOk result (λ x. x.meetings.items ≡ []) }
     {
         let count = net.cells().len();
         Ok(Spreading {
@@ -74,6 +96,8 @@ impl<'a> Spreading<'a> {
             labels: vec![in alloc; NO_LABEL; count]?,
             has_spread: vec![in alloc; false; count]?,
             waiting: Vec::new(alloc),
+            meetings: Vec::new(alloc),
+            sets: LabelSets::of_nodes(alloc, net.nodes())?,
         })
     }
 
@@ -82,6 +106,7 @@ impl<'a> Spreading<'a> {
         ensures net { IfOk result (λ x. x.net.now ≡ net.now) }
         ensures sources { IfOk result (λ x. HasSources (length net.now.cells) net.now
             x.levels.items x.labels.items x.has_spread.items) }
+        ensures meetings { IfOk result (λ x. x.meetings.items ≡ []) }
     {
         let mut spreading = Self::of_unlabelled(alloc, net)?;
         let count = net.nodes();
@@ -90,23 +115,50 @@ impl<'a> Spreading<'a> {
             if net.source(node).is_some() {
                 spreading.levels[node as usize] = net.cells()[node as usize];
                 spreading.labels[node as usize] = node;
+                unite_ends(&mut spreading.sets, net, node);
             }
             node = net.next_candidate(node + 1);
         }
         Ok(spreading)
     }
 
+    /// Lists the meeting of a label, at this level, with that of node `to`.
+    /// Does not where the two have met before, or where `to` is higher: it finds the meeting then.
+    #[inline(never)]
+    fn meet(&mut self, to: u32, label: u32, level: Cell) -> Result<(), AllocError>
+        requires sizes { length self.old.labels.items ≡ length self.old.levels.items }
+        requires labelled { IsSome (entry_of self.old.levels.items to) }
+        requires level { IsSome level }
+        ensures { OnOk result (Reaches (unwrap_or level no_data) label to self.old self.new) }
+    {
+        let level = level.number();
+        let own = self.labels[to as usize];
+        if self.levels[to as usize].number() <= level && self.sets.unite(label, own) {
+            self.meetings.push(Meeting {
+                from: label,
+                to: own,
+                level,
+            })?;
+        }
+        Ok(())
+    }
+
     /// Labels node `to` from a node of this label and level, if it is an unlabelled data cell.
-    /// Opens it where its level is that of the other node.
+    /// Opens it where its level is that of the other node. Two labels meet if it has another one.
     #[inline(always)]
     fn reach(&mut self, to: u32, label: u32, level: Cell) -> Result<(), AllocError>
         requires to { to < length self.old.net.now.cells }
         requires sizes { (now : ℤ) × IsPartFlood now self.old }
         requires level { IsSome level }
+        requires label { label < no_label }
         ensures { OnOk result (Reaches (unwrap_or level no_data) label to self.old self.new) }
     {
-        if self.levels[to as usize].height().is_some() {
+        let own = self.labels[to as usize];
+        if own == label {
             return Ok(());
+        }
+        if own != NO_LABEL {
+            return self.meet(to, label, level);
         }
         let cell = self.net.cells()[to as usize];
         let Some(height) = cell.height() else {
@@ -124,6 +176,7 @@ impl<'a> Spreading<'a> {
     fn spread(&mut self, node: u32) -> Result<(), AllocError>
         requires labelled { IsSome (entry_of self.old.levels.items node) }
         requires part { IsPartFlood (level_of self.old node) self.old }
+        requires meetings { AreMeetings self.old }
         ensures { OnOk result (Spreads (level_of self.old node) self.old self.new) }
     {
         let level = self.levels[node as usize];
@@ -151,6 +204,7 @@ impl<'a> Spreading<'a> {
     fn spread_from(&mut self, first: u32) -> Result<(), AllocError>
         requires labelled { IsSome (entry_of self.old.levels.items first) }
         requires part { IsPartFlood (level_of self.old first) self.old }
+        requires meetings { AreMeetings self.old }
         ensures { OnOk result (Spreads (level_of self.old first) self.old self.new) }
     {
         let level = self.levels[first as usize];
@@ -190,15 +244,19 @@ impl<'a> Spreading<'a> {
     }
 }
 
-/// Finds the level and the label of each node; `None` where its certificate fails.
+/// Finds the level and the label of each node, and meetings of the labels.
+/// Returns `None` where the certificate of the levels and labels fails.
 ///
 /// # Errors
 ///
 /// [`AllocError`] if an allocation fails.
 pub(crate) fn flood_by_height(alloc: Global, net: &CellNet) -> Result<Option<NodeFlood>, AllocError>
-    ensures { IfOk result (λ found. IfSome found (λ f.
+    ensures flooded { IfOk result (λ found. IfSome found (λ f.
         IsFlooded (IsCellJoin net.now) (source_of net.now) (length net.now.cells) f.levels.items
         (numbered_labels f.labels.items))) }
+    ensures meetings { IfOk result (λ found. IfSome found (λ f.
+        All (IsNodeMeeting net.now f.levels.items (numbered_labels f.labels.items))
+        f.meetings.items)) }
 {
     let order = nodes_by_height(alloc, net.cells())?;
     let mut spreading = Spreading::of_sources(alloc, net)?;
@@ -219,6 +277,7 @@ pub(crate) fn flood_by_height(alloc: Global, net: &CellNet) -> Result<Option<Nod
     Ok(Some(NodeFlood {
         levels: spreading.levels,
         labels: spreading.labels,
+        meetings: spreading.meetings,
         lowest: first_height(net.cells(), &order),
     }))
 }

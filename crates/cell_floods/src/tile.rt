@@ -1,14 +1,16 @@
 //! Finds the level and the label of each data cell of one tile: [`tile_flood`].
-ghost use Rattle.std.specs.Prelude.{◌≡◌, IfOk, length, true, false, MatchOption, None, is_none, slice_index_or, ◌<◌};
+//!
+//! [`flood_with_meetings`] finds where the labels meet too.
+ghost use Rattle.std.specs.Prelude.{◌≡◌, All, IfOk, length, true, false, MatchOption, None, is_none, slice_index_or, ◌<◌};
 ghost use Rattle.terrain.specs.Sinks.{with_sinks};
 ghost use Rattle.tiles.specs.Cutting.{terrain_of, is_in_bounds, index_in};
 ghost use Rattle.cell_floods.specs.Labels.{labels_by};
 ghost use Rattle.cell_floods.specs.Spreading.{AreFlooded, HasSizeOf};
-ghost use Rattle.cell_floods.specs.TileFlood.{IsFlood, IsTileFlood, level_in, label_in, levels_where};
+ghost use Rattle.cell_floods.specs.TileFlood.{IsFlood, IsMeeting, IsTileFlood, level_in, label_in, levels_where};
 
 use crate::cell_net::{CellNet, without_border};
 use crate::ends::end_heights;
-use crate::labels::{Labels, labels_of};
+use crate::labels::{IndexedLabels, Labels, indexed_meetings, labels_of};
 use crate::levels::Levels;
 use crate::spreading::{NodeFlood, flood_by_height};
 use floods::{FloodedNet, flood_net};
@@ -29,6 +31,24 @@ pub struct TileFlood {
     /// For each entry of the table of labels: the height of an end cell, else no data.
     ends: Vec<Cell>,
     ghost whole: { length heights ≡ length labels.indexes },
+}
+
+/// A meeting of two labels: two neighbouring cells have them.
+/// Labels are given by their indexes in the tile's table.
+#[derive(Clone, Copy, Debug, PartialEq, Eq)]
+pub struct Meeting {
+    pub from: u32,
+    pub to: u32,
+    /// The greater of the levels of the two cells, in units.
+    pub level: Height,
+}
+
+/// The flood of a tile, and meetings of its labels: enough of them for each label's least crest.
+/// No clause promises that they are enough.
+#[derive(Drop)]
+pub struct FloodWithMeetings {
+    pub flood: TileFlood,
+    pub meetings: Vec<Meeting>,
 }
 
 impl Model for TileFlood {
@@ -145,26 +165,31 @@ struct InnerFlood {
     heights: Levels,
     /// The number that stores each cell's label, a node of the net.
     nodes: Vec<u32>,
+    /// Meetings of labels, which are given by their nodes.
+    meetings: Vec<Meeting>,
 }
 
 /// Floods a tile's net by the queue of [`flood_net`], which needs no certificate.
 #[inline(never)]
 fn flood_by_queue(alloc: Global, net: &CellNet, bounds: Bounds) -> Result<InnerFlood, NoMemory>
     requires { HasSizeOf bounds net.now }
-    ensures { IfOk result (λ f. AreFlooded net.now bounds f.heights f.nodes.items) }
+    ensures { IfOk result (λ f.
+        AreFlooded net.now bounds f.heights f.nodes.items f.meetings.items) }
 {
     let FloodedNet { levels, labels } = flood_net(alloc, net)?;
     let heights = without_border(alloc, levels.heights(), bounds.cols, bounds.rows)?;
     Ok(InnerFlood {
         heights: Levels::of_heights(heights),
         nodes: without_border(alloc, labels.numbers(), bounds.cols, bounds.rows)?,
+        meetings: Vec::new(alloc),
     })
 }
 
 /// Floods the net of a tile with these bounds: by height, or by the queue if that has no result.
 fn inner_flood(alloc: Global, net: &CellNet, bounds: Bounds) -> Result<InnerFlood, NoMemory>
     requires { HasSizeOf bounds net.now }
-    ensures { IfOk result (λ f. AreFlooded net.now bounds f.heights f.nodes.items) }
+    ensures { IfOk result (λ f.
+        AreFlooded net.now bounds f.heights f.nodes.items f.meetings.items) }
 {
     let Some(found) = flood_by_height(alloc, net)? else {
         return flood_by_queue(alloc, net, bounds);
@@ -172,11 +197,53 @@ fn inner_flood(alloc: Global, net: &CellNet, bounds: Bounds) -> Result<InnerFloo
     let NodeFlood {
         levels,
         labels,
+        meetings,
         lowest,
     } = found;
     Ok(InnerFlood {
         heights: Levels::of_nodes(alloc, &levels, lowest, bounds.cols, bounds.rows)?,
         nodes: without_border(alloc, &labels, bounds.cols, bounds.rows)?,
+        meetings,
+    })
+}
+
+/// Finds the level and the label of each data cell of a tile, and meetings of the labels.
+///
+/// See [`tile_flood`] for where paths end.
+///
+/// # Errors
+///
+/// [`NoMemory`] if an allocation fails.
+pub fn flood_with_meetings(
+    alloc: Global,
+    view: &TileView<'_, Cell>,
+    sinks: &[Place],
+) -> Result<FloodWithMeetings, NoMemory>
+    ensures flood { IfOk result (λ f.
+        IsTileFlood (with_sinks (terrain_of view.now) sinks.now) view.now.cutting view.now.tile
+        f.flood) }
+    ensures meetings { IfOk result (λ f.
+        All (IsMeeting (with_sinks (terrain_of view.now) sinks.now) f.flood) f.meetings.items) }
+{
+    let bounds = view.bounds();
+    let net = CellNet::of_view(alloc, view, sinks)?;
+    let InnerFlood {
+        heights,
+        nodes,
+        meetings,
+    } = inner_flood(alloc, &net, bounds)?;
+    let sinks = net.into_sinks();
+    let IndexedLabels { labels, met } = labels_of(alloc, bounds, nodes)?;
+    let meetings = indexed_meetings(alloc, met, meetings)?;
+    let ends = end_heights(alloc, view, &sinks, labels.places())?;
+    Ok(FloodWithMeetings {
+        flood: TileFlood {
+            bounds,
+            heights,
+            labels,
+            ends,
+        },
+        meetings,
     })
 }
 
@@ -203,16 +270,5 @@ pub fn tile_flood(
     ensures { IfOk result (λ f.
         IsTileFlood (with_sinks (terrain_of view.now) sinks.now) view.now.cutting view.now.tile f) }
 {
-    let bounds = view.bounds();
-    let net = CellNet::of_view(alloc, view, sinks)?;
-    let inner = inner_flood(alloc, &net, bounds)?;
-    let labels = labels_of(alloc, bounds, &inner.nodes)?;
-    let sinks = net.into_sinks();
-    let ends = end_heights(alloc, view, &sinks, labels.places())?;
-    Ok(TileFlood {
-        bounds,
-        heights: inner.heights,
-        labels,
-        ends,
-    })
+    Ok(flood_with_meetings(alloc, view, sinks)?.flood)
 }

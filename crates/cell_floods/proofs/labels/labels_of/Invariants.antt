@@ -10,5 +10,5 @@ invariant-loop-node l = record {
   met : AreMet l.bounds l.met.items l.places.items;
   size : length l.met.items ≡ (l.bounds.rows + 2) * (l.bounds.cols + 2);
   labels : labels_by l.places.items l.indexes.items
-      ≡ map (label_of_node l.bounds) (take l.node-index (numbered_labels l.nodes));
+      ≡ map (label_of_node l.bounds) (take l.node-index (numbered_labels l.fn.nodes.items));
 }

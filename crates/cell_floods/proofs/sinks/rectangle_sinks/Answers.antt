@@ -1,6 +1,6 @@
 use Rattle.std.proofs.Common.{refl, sym, ◌∙◌, arith}
 use Rattle.tiles.proofs.Cut.{in_bounds_parts}
-use Rattle.cell_floods.proofs.Rectangles.{one_more, one_outside}
+use Rattle.cell_floods.proofs.FirstSinks.{one_more, one_outside}
 use Rattle.cell_floods.proofs.sinks.rectangle_sinks.Goals as goal
 use Rattle.cell_floods.proofs.sinks.rectangle_sinks.Goals.{then-contains, else-contains}
 

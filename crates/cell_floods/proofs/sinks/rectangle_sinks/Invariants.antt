@@ -1,4 +1,4 @@
-use Rattle.cell_floods.proofs.Rectangles.{HasFirstSinks}
+use Rattle.cell_floods.proofs.FirstSinks.{HasFirstSinks}
 use Rattle.cell_floods.proofs.sinks.rectangle_sinks.Given as goal
 
 abbrev pub invariant-loop-place : goal.invariant-loop-place

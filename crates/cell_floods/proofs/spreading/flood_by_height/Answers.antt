@@ -1,11 +1,13 @@
-use Rattle.std.proofs.Common.{rules, ◌≡◌, ◌≤ℤ◌, Some, subst, sym, true, unwrap_or, ◌∙◌}
+use Rattle.std.proofs.Common.{rules, arith, ◌≡◌, ◌≤ℤ◌, Some, subst, sym, true, unwrap_or, ◌∙◌}
 use mir.Val.{SFits}
 use Rattle.std.proofs.lemmas.Bool.{OnTrue_at}
 use Rattle.std.proofs.lemmas.Int.{to_z-of_z}
 use Rattle.terrain.proofs.Heights.{height_width}
 use Rattle.terrain.specs.StoredCells.{no_data}
+use Rattle.std.specs.List.{All}
+use Rattle.floods.specs.Notes.{numbered_labels}
 use Rattle.cell_floods.specs.Cells.{source_of}
-use Rattle.cell_floods.specs.Spreading.{IsPart, IsPartFlood, Spreads}
+use Rattle.cell_floods.specs.Spreading.{IsNodeMeeting, IsPart, IsPartFlood, Spreads}
 use Rattle.cell_floods.proofs.SpreadSteps.{begun, flooded, later, sources_are, sources_kept}
 use Rattle.cell_floods.proofs.spreading.flood_by_height.Goals as goal
 
@@ -17,6 +19,7 @@ loop-node-init c =
       net = is.net;
       part = subst (λ n. IsPart _ n x.levels.items x.labels.items x.has_spread.items) (sym is.net)
           (begun _ _ c.args.net.now _ _ _ is.sources);
+      meetings = rw is.meetings (λ k d low. absurd (omega (arith, low)));
       sources = λ a h source. sources_are c.args.net.now _ _ _ is.sources a h
           (subst (λ n. source_of n a ≡ Some h) is.net source);
     }
@@ -37,12 +40,13 @@ loop-node-preserved c =
     rw (to_z-of_z height_width c.in-Some.level fits) (record {
       net = spread.net ∙ before.net;
       part = spread.part;
+      meetings = spread.meetings;
       sources = sources_kept c.loop-node.spreading c.spread_from.new.self spread.net spread.kept
           before.sources;
     })
 
-pub returns : goal.returns
-returns c =
+pub returns-clause-flooded : goal.returns-clause-flooded
+returns-clause-flooded c =
     let n = c.args.net.now in
     let x = c.loop-node.spreading in
     let end = c.loop-node.invariant in
@@ -54,3 +58,10 @@ returns c =
     end.net part)
     (λ a h source. end.sources a h (subst (λ m. source_of m a ≡ Some h) (sym end.net) source))
     (OnTrue_at complete c.is_complete.ensures)
+
+pub returns-clause-meetings : goal.returns-clause-meetings
+returns-clause-meetings c =
+    let x = c.loop-node.spreading in
+    let end = c.loop-node.invariant in
+    subst (λ m. All (IsNodeMeeting m x.levels.items (numbered_labels x.labels.items)) x.meetings.items)
+    end.net end.meetings

@@ -1,4 +1,4 @@
-use Rattle.std.proofs.Common.{◌∙◌}
+use Rattle.std.proofs.Common.{◌∙◌, arith}
 use Rattle.cell_floods.proofs.TileRectangles.{inner_lists}
 use Rattle.cell_floods.proofs.tile.flood_by_queue.Goals as goal
 
@@ -11,6 +11,7 @@ returns c =
       levels = found.levels;
       labels = found.labels;
       flooded = c.in_ok-levels.ensures;
+      meetings_are = rw c.new.ensures.items (λ k d low. absurd (omega (arith, low)));
       heights_are = lists.0;
       nodes_are = lists.1;
     }

@@ -11,7 +11,8 @@ returns c =
     record {
       levels = f.levels.items;
       labels = numbered_labels f.labels.items;
-      flooded = rw c.in-Some.is at c.in_ok-found.ensures;
+      flooded = rw c.in-Some.is at c.in_ok-found.ensures.flooded;
+      meetings_are = rw c.in-Some.is at c.in_ok-found.ensures.meetings;
       heights_are = c.in_ok-of_nodes.ensures
           ∙ ap (λ z. map height_or_lack (inner_rows z b.cols b.rows)) c.deref.ensures.value;
       nodes_are = ap numbered_labels (c.in_ok-without_border.ensures

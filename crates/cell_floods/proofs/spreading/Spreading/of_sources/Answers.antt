@@ -28,6 +28,7 @@ loop-node-preserved c =
           ∙ ap (λ z. entry_of z node) w.cells.ensures.value ∙ source_cell n node source.0 is in
           rw w.spreading-is (record {
             net = before.net;
+            meetings = before.meetings;
             inside = next.inside;
             sources = sources_passed (node + 1) _ n _ _ _ (subst (λ o. HasSources (node + 1) n
                 (set x.levels.items node o) (set x.labels.items node node) x.has_spread.items)
@@ -38,6 +39,7 @@ loop-node-preserved c =
           sym c.source.ensures ∙ none_from_is_some c.source.result (sym w.if-is_some.ensures) in
           rw w.spreading-is (record {
             net = before.net;
+            meetings = before.meetings;
             inside = next.inside;
             sources = sources_passed node _ n _ _ _ before.sources (λ a low high. elim (cases_eq a node) [
               | inl same ↦ ap (source_of n) same ∙ none

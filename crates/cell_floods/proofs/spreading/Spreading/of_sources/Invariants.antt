@@ -1,10 +1,11 @@
-use Rattle.std.proofs.Common.{◌≡◌, ◌≤◌, ◌-◌, length}
+use Rattle.std.proofs.Common.{◌≡◌, ◌≤◌, ◌-◌, [], length}
 use Rattle.cell_floods.specs.Spreading.{HasSources}
 use Rattle.cell_floods.proofs.spreading.Spreading.of_sources.Given as goal
 
 abbrev pub invariant-loop-node : goal.invariant-loop-node
 invariant-loop-node l = record {
   net : l.spreading.net.now ≡ l.net;
+  meetings : l.spreading.meetings.items ≡ [];
   inside : l.node ≤ length l.net.cells;
   sources : HasSources l.node l.net l.spreading.levels.items l.spreading.labels.items
       l.spreading.has_spread.items;

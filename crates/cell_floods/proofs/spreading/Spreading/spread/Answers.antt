@@ -1,15 +1,16 @@
-use Rattle.std.proofs.Common.{◌≡◌, ◌<◌, ap, refl, sym, subst, ◌∙◌, Some, None, get_or, set, take, true, is_some, length, unwrap_or, arith}
+use Rattle.std.proofs.Common.{◌≡◌, ◌<◌, ◌≤◌, ap, refl, sym, subst, ◌∙◌, Some, None, get_or, set, take, true, is_some, length, unwrap_or, arith}
 use Rattle.std.specs.List.{All}
 use Rattle.std.proofs.lemmas.List.{get_or_default, take_all}
 use Rattle.std.proofs.lemmas.List.Elements.{All-get_or, All-more}
 use Rattle.terrain.specs.StoredCells.{no_data}
 use Rattle.terrain.proofs.Options.{some_inside}
 use Rattle.floods.specs.Flood.{entry_of}
+use Rattle.floods.specs.Notes.{no_label}
 use Rattle.cell_floods.specs.Cells.{IsBeside, cells_around}
 use Rattle.cell_floods.specs.Spreading.{IsPart, Reaches, number_of}
 use Rattle.cell_floods.proofs.Rectangles.{data_is}
 use Rattle.cell_floods.proofs.CellArcs.{all_beside}
-use Rattle.cell_floods.proofs.SpreadSteps.{IsMet, walk_cell, reached, flagged, met_kept}
+use Rattle.cell_floods.proofs.SpreadSteps.{IsMet, walk_cell, reached, flagged, label_stored, meetings_reached, met_kept}
 use Rattle.cell_floods.proofs.spreading.Spreading.spread.Goals as goal
 use Rattle.cell_floods.proofs.spreading.Spreading.spread.Goals.{After-around-to-items}
 
@@ -40,6 +41,7 @@ loop-to-init c =
       level = is.0;
       label = is.1;
       part = rw (← is.0) c.requires.part;
+      meetings = c.requires.meetings;
       kept = λ a level e. (e, refl);
       work = omega arith;
       met = λ k d below. absurd (omega (arith, below));
@@ -64,8 +66,8 @@ loop-to-preserved c =
     let beside = All-get_or (IsBeside x.net.now.stride c.args.node) c.around-to-items.result
     c.loop-to.to-index 0 low near in
     let to = get_or c.around-to-items.result c.loop-to.to-index 0 in
-    let step = reached now c.args.node to x y before.part at beside
-    (subst (λ n. Reaches now n to x y) (sym before.label) c.in_ok-reach.ensures) in
+    let reaches = subst (λ n. Reaches now n to x y) (sym before.label) c.in_ok-reach.ensures in
+    let step = reached now c.args.node to x y before.part at beside reaches in
     let net = c.in_ok-reach.ensures.net in
     let before_it = take c.loop-to.to-index c.around-to-items.result in
     let own_kept = step.kept c.args.node now at in
@@ -74,6 +76,9 @@ loop-to-preserved c =
       level = own_kept.0 ∙ sym at ∙ before.level;
       label = own_kept.1 ∙ before.label;
       part = step.part;
+      meetings = meetings_reached now c.args.node to x y before.part
+          (subst (λ m. length m.cells ≤ 16793604) (sym before.net) around.few) at beside reaches step
+          before.meetings;
       kept = λ a level' e.
           let was = before.kept a level' e in
           let is = step.kept a level' was.0 in
@@ -113,6 +118,14 @@ returns c =
           x.labels.items x.has_spread.items c.args.node
           (subst (λ m. IsPart now m x.levels.items x.labels.items x.has_spread.items) end.net
           end.part) at around.above met);
+      meetings = end.meetings;
       kept = end.kept;
       work = end.work;
     })
+
+pub reach-requires-clause-label : goal.reach-requires-clause-label
+reach-requires-clause-label c =
+    let level = data_is _ c.requires.labelled in
+    let is = own (goal.at.reach-requires-clause-label c).After-around-to-items in
+    subst (λ k. k < no_label) is.1
+    (label_stored _ _ _ _ _ c.args.node level.0 c.requires.part c.around-to-items.ensures.few level.1).0

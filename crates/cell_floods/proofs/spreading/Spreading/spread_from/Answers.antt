@@ -23,7 +23,7 @@ loop-node-init c = record {
   some = subst IsSome (own c) c.requires.labelled;
   spread = spreads_none (unwrap_or c.index-level.result.now no_data) c.spread.new.self
       (subst (λ o. IsPartFlood (unwrap_or o no_data) c.spread.new.self) (own c)
-      c.in_ok-spread.ensures.part);
+      c.in_ok-spread.ensures.part) c.in_ok-spread.ensures.meetings;
 }
 
 pub returns : goal.returns
@@ -36,6 +36,7 @@ returns c =
     rw is (spreads_then now c.args.self.now c.spread.new.self _ first (record {
       net = rest.net;
       part = rest.part;
+      meetings = rest.meetings;
       kept = rest.kept;
       work = omega (arith, rest.work, ap length c.in_default.ensures.items);
     }))

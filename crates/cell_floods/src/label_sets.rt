@@ -1,0 +1,63 @@
+//! Sets of a net's nodes, which tell whether two labels have met: [`LabelSets`].
+//!
+//! No caller relies on the sets: they choose which meetings a flood lists.
+ghost use Rattle.std.specs.Prelude.{◌≤◌};
+
+use std::alloc::{AllocError, Global};
+
+/// Disjoint sets of a net's nodes.
+#[derive(Drop)]
+pub(crate) struct LabelSets {
+    /// For each node a lower node of its set, or the node itself if none is lower.
+    parents: Vec<u32>,
+}
+
+impl LabelSets {
+    /// Makes a set for each node below `count`.
+    pub(crate) fn of_nodes(alloc: Global, count: u32) -> Result<Self, AllocError> {
+        let mut parents = Vec::with_capacity(alloc, count as usize)?;
+        for node in 0..count {
+            parents.push(node)?;
+        }
+        Ok(LabelSets { parents })
+    }
+
+    /// Returns a lower node of a node's set, or the node itself.
+    #[inline(always)]
+    fn parent(&self, node: u32) -> u32
+        ensures { result ≤ node }
+    {
+        match self.parents.get(node as usize) {
+            Some(parent) => node.min(*parent),
+            None => node,
+        }
+    }
+
+    #[inline(always)]
+    fn set_parent(&mut self, node: u32, parent: u32) {
+        if let Some(own) = self.parents.get_mut(node as usize) {
+            *own = parent;
+        }
+    }
+
+    /// Returns the lowest node of a node's set. Halves the way to it.
+    fn first(&mut self, node: u32) -> u32 {
+        let mut node = node;
+        let mut parent = self.parent(node);
+        while parent < node {
+            let above = self.parent(parent);
+            self.set_parent(node, above);
+            node = above;
+            parent = self.parent(node);
+        }
+        node
+    }
+
+    /// Unites the sets of two nodes. Returns whether they were two sets.
+    pub(crate) fn unite(&mut self, one: u32, other: u32) -> bool {
+        let one = self.first(one);
+        let other = self.first(other);
+        self.set_parent(one.max(other), one.min(other));
+        one != other
+    }
+}
