@@ -76,12 +76,12 @@ level_has_data t c floods h are p l within e = elim (cases_option (height_at t p
 
 -- A low path has a crest of at most m. If a neighbour of a cell of height at most m has a low path,
 -- so has the cell.
-low_step : (t : Terrain) (m : ℤ) (p q : Place) → IsNeighbour t p q → height_of t p ≤ℤ m →
+pub low_step : (t : Terrain) (m : ℤ) (p q : Place) → IsNeighbour t p q → height_of t p ≤ℤ m →
     HasLowPath t m q → HasLowPath t m p
 low_step t m p q next low way =
     (q ∷ way.0, (next, way.1), max_least (height_of t p) (crest t q way.0) m low way.2)
 
-low_below : (t : Terrain) (m n : ℤ) (p : Place) → m ≤ℤ n → HasLowPath t m p → HasLowPath t n p
+pub low_below : (t : Terrain) (m n : ℤ) (p : Place) → m ≤ℤ n → HasLowPath t m p → HasLowPath t n p
 low_below t m n p le way = (way.0, way.1, trans _ _ _ way.2 le)
 
 pub neighbour_back : (t : Terrain) (p q : Place) → IsNeighbour t p q → IsNeighbour t q p
@@ -118,13 +118,13 @@ low_at_first t c m p (q ∷ rest) path low way =
     way)
 
 -- If a cell whose level is at most m has a low path, so has its label.
-low_at_label : (t : Terrain) (c : Cutting) (p label : Place) (level m : ℤ) →
+pub low_at_label : (t : Terrain) (c : Cutting) (p label : Place) (level m : ℤ) →
     IsTileLevel t c p level label → level ≤ℤ m → HasLowPath t m p → HasLowPath t m label
 low_at_label t c p label level m l le way =
     subst (HasLowPath t m) l.reached.3
     (low_at_last t c m p l.reached.0 l.reached.1 (subst (λ z. z ≤ℤ m) (sym l.reached.2) le) way)
 
-low_from_label : (t : Terrain) (c : Cutting) (p label : Place) (level m : ℤ) →
+pub low_from_label : (t : Terrain) (c : Cutting) (p label : Place) (level m : ℤ) →
     IsTileLevel t c p level label → level ≤ℤ m → HasLowPath t m label → HasLowPath t m p
 low_from_label t c p label level m l le way =
     low_at_first t c m p l.reached.0 l.reached.1 (subst (λ z. z ≤ℤ m) (sym l.reached.2) le)
@@ -159,12 +159,6 @@ end_label t c p label level l end =
     l.own (inr end) (height.1 ∙ ap Some (sym (height_is t p height.0 height.1)
     ∙ sym (source_level t c p label level l (inr end))))
 
-last_low : (t : Terrain) (p : Place) (rest : List Place) →
-    height_of t (last_cell p rest) ≤ℤ crest t p rest
-last_low t p [] = ≤ℤ_refl (height_of t p)
-last_low t p (q ∷ rest) =
-    trans _ _ _ (last_low t q rest) (max_right (height_of t p) (crest t q rest))
-
 -- Two neighbouring cells have labels of numbers `a` and `b`. The greater of their levels is
 -- `height`.
 pub record AreMeeting (t : Terrain) (c : Cutting) (floods : List Flood) (number : Place → Option ℕ)
@@ -180,36 +174,16 @@ pub record AreMeeting (t : Terrain) (c : Cutting) (floods : List Flood) (number 
   pub to_is : level_among c floods to ≡ Some to_level
   pub greater : int_max from_level to_level ≡ height
 
-abbrev IsStraight : Place → Place → Type 0
-IsStraight p q = (p.row ≡ q.row) ⊎ (p.col ≡ q.col)
-
--- Cells p and q touch at a corner. A third cell, in the row of one and the column of the other,
--- with a level of at most `height`, leads round the corner.
-pub record LeadsRound (t : Terrain) (c : Cutting) (floods : List Flood) (p q : Place) (height : ℤ) :
-    Type 0 where
-  pub middle : Place
-  pub level : ℤ
-  pub level_is : level_among c floods middle ≡ Some level
-  pub there : IsNeighbour t p middle
-  pub on : IsNeighbour t middle q
-  pub there_straight : (p.row ≡ middle.row) ⊎ (p.col ≡ middle.col)
-  pub on_straight : (middle.row ≡ q.row) ⊎ (middle.col ≡ q.col)
-  pub low : level ≤ℤ height
-  pub bent_row : p.row ≢ q.row
-  pub bent_col : p.col ≢ q.col
-
 -- The nodes of a net are numbers of labels. Different labels of two neighbouring cells have a join
--- no higher than the greater of the cells' levels. The exceptions are labels that are both sources,
--- and cells that a third cell bypasses. Each join is that of two neighbouring cells, and the
--- sources are the labels that are end cells.
+-- no higher than the greater of the cells' levels. Each join is that of two neighbouring cells, and
+-- the sources are the labels that are end cells.
 pub record IsLabelNet (t : Terrain) (c : Cutting) (floods : List Flood) (number : Place → Option ℕ)
     (joins : Joins) (source : Sources) : Type 0 where
   pub some : (p : Place) → IsDataCell t p → (a : ℕ) × (number p ≡ Some a)
   pub one : (p q : Place) (a : ℕ) → number p ≡ Some a → number q ≡ Some a →
       label_among c floods p ≡ label_among c floods q
   pub joined : (a b : ℕ) (h : ℤ) → a ≢ b → (x : AreMeeting t c floods number a b h) →
-      ((IsSome (source a) × IsSome (source b)) ⊎ ((low : ℤ) × joins a b low × (low ≤ℤ h)))
-      ⊎ LeadsRound t c floods x.from x.to h
+      (low : ℤ) × joins a b low × (low ≤ℤ h)
   pub joined_only : (a b : ℕ) (h : ℤ) → joins a b h → AreMeeting t c floods number a b h
   pub end_source : (p : Place) (a : ℕ) (h : ℤ) → IsEnd t p → label_among c floods p ≡ Some p →
       number p ≡ Some a → height_at t p ≡ Some h → source a ≡ Some h
@@ -220,89 +194,39 @@ pub record IsLabelNet (t : Terrain) (c : Cutting) (floods : List Flood) (number 
 module _ (t : Terrain) (c : Cutting) (floods : List Flood) (h : IsCutting c)
     (are : AreFloods t c floods) (number : Place → Option ℕ) (joins : Joins) (source : Sources)
     (net : IsLabelNet t c floods number joins source) where
-  -- If a cell's level is at most m and its label a source, the label has a walk of crest at most m.
-  source_walk : (p : Place) (a : ℕ) (l : HasTileLevel t c floods p) (m : ℤ) →
-      IsDataCell t p → number p ≡ Some a → l.level ≤ℤ m → IsSome (source a) → (walk : List Spill)
-      × IsWalk joins source a walk × (walk_crest source a walk ≤ℤ m)
-  source_walk p a l m has is low some =
-      let z = data_is (source a) some in
-      let end = net.source_end p a z.0 has is z.1 in
-      let same = same_Some end.0 l.label (sym end.1 ∙ l.label_is) in
-      let height : height_of t l.label ≡ z.0 =
-      subst (λ y. height_of t y ≡ z.0) same (height_is t end.0 z.0 end.3) in
-      let label_low : height_of t l.label ≤ℤ l.level =
-      subst (λ n. height_of t l.label ≤ℤ n) l.right.reached.2 (subst (λ q. height_of t q
-      ≤ℤ crest t p l.right.reached.0) l.right.reached.3 (last_low t p l.right.reached.0)) in (
-        [],
-        some,
-        trans _ _ _ (le_of_same _ _ (ap (λ (o : Option ℤ). unwrap_or o (pos 0)) z.1 ∙ sym height))
-            (trans _ _ _ label_low low),
-      )
-
   abbrev HasLowWalk : ℕ → ℤ → Type 0
   HasLowWalk a m = (walk : List Spill) × IsWalk joins source a walk
       × (walk_crest source a walk ≤ℤ m)
 
   -- If the levels of neighbours p and q are at most m, a low walk from q's label gives one from p's
-  -- label. Where a third cell bypasses p and q, a premise gives the walk from p's label.
+  -- label.
   walk_over : (p q : Place) (a b : ℕ) (m : ℤ) (l : HasTileLevel t c floods p)
       (k : HasTileLevel t c floods q) → IsNeighbour t p q → number p ≡ Some a → number q ≡ Some b →
-      l.level ≤ℤ m → k.level ≤ℤ m
-      → (LeadsRound t c floods p q (int_max l.level k.level) → HasLowWalk a m) → HasLowWalk b m →
-      HasLowWalk a m
-  walk_over p q a b m l k next is at from_low to_low round further = elim (cases_eq b a) [
+      l.level ≤ℤ m → k.level ≤ℤ m → HasLowWalk b m → HasLowWalk a m
+  walk_over p q a b m l k next is at from_low to_low further = elim (cases_eq b a) [
     | inl same ↦ (
       further.0,
       subst (λ n. IsWalk joins source n further.0) same further.1,
       subst (λ n. walk_crest source n further.0 ≤ℤ m) same further.2,
     )
-    | inr differ ↦ elim (net.joined a b (int_max l.level k.level) (λ e. differ (sym e)) (record {
-      from = p;
-      to = q;
-      from_level = l.level;
-      to_level = k.level;
-      neighbours = next;
-      from_number = is;
-      to_number = at;
-      from_is = l.level_is;
-      to_is = k.level_is;
-      greater = refl;
-    })) [
-      | inr by ↦ round by
-      | inl straight ↦ elim straight [
-        | inl both ↦ source_walk p a l m next.from_data is from_low both.0
-        | inr join ↦ (
+    | inr differ ↦
+        let join = net.joined a b (int_max l.level k.level) (λ e. differ (sym e)) (record {
+          from = p;
+          to = q;
+          from_level = l.level;
+          to_level = k.level;
+          neighbours = next;
+          from_number = is;
+          to_number = at;
+          from_is = l.level_is;
+          to_is = k.level_is;
+          greater = refl;
+        }) in (
           record { to = b; height = join.0 } ∷ further.0,
           (join.1, further.1),
           max_least _ _ _ (trans _ _ _ join.2 (max_least _ _ _ from_low to_low)) further.2,
         )
-      ]
-    ]
   ]
-
-  walk_straight : (p q : Place) (a b : ℕ) (m : ℤ) (l : HasTileLevel t c floods p)
-      (k : HasTileLevel t c floods q) → IsNeighbour t p q → IsStraight p q → number p ≡ Some a →
-      number q ≡ Some b → l.level ≤ℤ m → k.level ≤ℤ m → HasLowWalk b m → HasLowWalk a m
-  walk_straight p q a b m l k next straight is at from_low to_low further =
-      walk_over p q a b m l k next is at from_low to_low (λ by. elim straight [
-        | inl row ↦
-            absurd (by.bent_row row)
-        | inr col ↦ absurd (by.bent_col col)
-      ]) further
-
-  walk_any : (p q : Place) (a b : ℕ) (m : ℤ) (l : HasTileLevel t c floods p)
-      (k : HasTileLevel t c floods q) → IsNeighbour t p q → number p ≡ Some a → number q ≡ Some b →
-      l.level ≤ℤ m → k.level ≤ℤ m → HasLowWalk b m → HasLowWalk a m
-  walk_any p q a b m l k next is at from_low to_low further =
-      walk_over p q a b m l k next is at from_low to_low (λ by.
-      let r = has_tile_level t c floods h are by.middle by.there.to_data in
-      let n = net.some by.middle by.there.to_data in
-      let level : r.level ≡ by.level = same_Some r.level by.level (sym r.level_is ∙ by.level_is) in
-      let low : r.level ≤ℤ m =
-      trans _ _ _ (le_of_same _ _ level) (trans _ _ _ by.low (max_least _ _ _ from_low to_low)) in
-      walk_straight p by.middle a n.0 m l r by.there by.there_straight is n.1 from_low low
-      (walk_straight by.middle q n.0 b m r k by.on by.on_straight n.1 at low to_low further))
-      further
 
   -- A path from a cell gives a walk from its label at no greater crest.
   path_walk : (p : Place) (a : ℕ) (l : HasTileLevel t c floods p) (rest : List Place) →
@@ -322,7 +246,7 @@ module _ (t : Terrain) (c : Cutting) (floods : List Flood) (h : IsCutting c)
       let b = net.some q path.0.to_data in
       let further = path_walk q b.0 k rest b.1 path.1 in
       let up = max_right (height_of t p) (crest t q rest) in
-      walk_any p q a b.0 (crest t p (q ∷ rest)) l k path.0 is b.1 (level_low t c floods h are p l
+      walk_over p q a b.0 (crest t p (q ∷ rest)) l k path.0 is b.1 (level_low t c floods h are p l
       (q ∷ rest) path) (trans _ _ _ (level_low t c floods h are q k rest path.1) up)
       (further.0, further.1, trans _ _ _ further.2 up)
 

@@ -1,14 +1,13 @@
 -- A cell's raised height is the greater of its level and its label's least crest. It is the cell's
 -- filled height, and all tiles together give the filled grid.
-use Rattle.std.proofs.Common.{◌≡◌, ℕ, ◌+◌, ◌*◌, ◌<◌, ◌≤◌, ◌⊎◌, inl, inr, ℤ, List, [], ◌∷◌, ◌++◌, length, get_or, Option, None, Some, is_some, ◌∙◌, sym, ap, subst, refl, arith, zero, suc, ◌/◌, ◌%◌, IfSome, MatchOption, mul_comm, pos, Vec, Global}
+use Rattle.std.proofs.Common.{◌≡◌, ◌≢◌, ℕ, ◌+◌, ◌*◌, ◌<◌, ◌⊎◌, inl, inr, ℤ, List, length, get_or, map, Option, None, Some, is_some, ◌∙◌, sym, ap, subst, refl, arith, zero, suc, ◌/◌, ◌%◌, IfSome, MatchOption, mul_comm, pos, Vec, Global}
 use Rattle.std.specs.Prelude.{slice_get, option_and_then, option_map}
 use Rattle.std.specs.Int.{int_max}
 use Rattle.std.specs.Ordering.{int_eq}
 use Rattle.std.specs.Prelude.{◌≤ℤ◌}
-use Rattle.std.proofs.lemmas.Int.{ints, clamps}
 use Rattle.std.proofs.lemmas.Bool.Decides.{Decides-int_eq}
 use Rattle.std.proofs.lemmas.Bool.{cases_eq, cases_Bool, cond-true, cond-false}
-use Rattle.std.proofs.lemmas.List.{get_or-map, length-map, length_push, get_or_append_left, get_or_push}
+use Rattle.std.proofs.lemmas.List.{get_or-map, length-map}
 use Rattle.terrain.specs.Raster.{Terrain, IsTerrain, IsHeight, Raster}
 use Rattle.terrain.specs.StoredCells.{cell_of, stored_cell, no_data}
 use Rattle.terrain.proofs.Stored.{stored_some}
@@ -16,30 +15,35 @@ use Rattle.terrain.specs.Sinks.{with_sinks}
 use Rattle.terrain.specs.Neighbours.{height_at, index_of, entry_at, IsDataCell, IsInside}
 use Rattle.drainage.specs.Filled.{IsFilledHeight, IsFilled, IsFilledGrid, IsOwnFilled}
 use Rattle.terrain.specs.declared.place.Place.{Place}
-use Rattle.terrain.proofs.Places.{entry-inside, index_injective, index_below, same_place}
+use Rattle.terrain.proofs.Orders.{max_left, max_right}
+use Rattle.terrain.proofs.Places.{entry-inside, index_injective, index_below, inside_from_entry, same_place}
 use Rattle.drainage.proofs.Heights.{filled_height_occurs}
 use Rattle.tiles.specs.declared.bounds.Bounds.{Bounds}
 use Rattle.tiles.specs.Cutting.{Cutting, IsCutting, IsInBounds, IsInTile, IsWithin, bounds_of, cell_count, tile_count, tile_entry, tile_of_place, Cuts, View, terrain_of, index_in}
 use Rattle.tiles.proofs.Cut.{bounds_inside, in_bounds, in_tile, tile_of_place_below}
 use Rattle.tiles.proofs.TileOrder.{tile_entry-in, entry_in-inside, index_in_below}
-use Rattle.cell_floods.specs.TileFlood.{Flood, level_in, label_in, IsTileFlood}
+use Rattle.cell_floods.specs.TileFlood.{Flood, level_in, label_in, IsMeeting, IsTileFlood}
+use Rattle.cell_floods.specs.declared.tile.Meeting.{Meeting}
 use Rattle.fill.specs.SpillGraph.{IsListOf, AreFloods, level_among, label_among, AreLeastCrests, crest_of, greater_of, raised_by, IsRaised, IsFilledTile, IsGraphOf, IsPass, Graph, HasJoin, source_in}
-use Rattle.fill.specs.RaisedTiles.{AreTileRuns, HasTile, IsRaisedTile, raised_among, raised_cell, crest_with, crest_at}
+use Rattle.fill.specs.RaisedTiles.{AreTileRuns, HasTile, IsRaisedTile, cell_at, raised_among, raised_cell, crest_with}
 use Rattle.fill.specs.RaisedRuns.{AreAllRaised, IsInTiles, IsPatched}
 use Rattle.fill.specs.declared.raised_runs.RaisedRun.{RaisedRun}
-use Rattle.fill.specs.LabelNet.{HasArc, source_number, IsNumberGraph, AreNumberLevels}
-use Rattle.fill.specs.Numbers.{first_of}
+use Rattle.fill.specs.Crests.{AreCrests}
+use Rattle.fill.specs.Held.{AreAsRead, AreHeldTiles, IsHeld}
+use Rattle.fill.specs.Numbers.{first_of, places_of}
 use Rattle.fill.specs.declared.cell_labels.CellLabel.{CellLabel}
-use Rattle.floods.specs.declared.net.Spill.{Spill}
+use Rattle.fill.proofs.Settled.{IsSettled, settled, settled_filled}
+use Rattle.drainage.proofs.Reach.{HasLowPath}
 use Rattle.fill.proofs.CellLabels.{entry_cell_label, label_entry}
-use Rattle.fill.proofs.Numbered.{AreLawful, fit_of, has_cell_label, number_below, number_among, number_net}
+use Rattle.fill.proofs.Numbered.{AreLawful, fit_of, has_cell_label, number_label, numbered}
 use Rattle.fill.specs.declared.raised_tiles.RaisedTile.{RaisedTile}
 use Rattle.fill.specs.Gathering.{Fit, cell_label_among, cell_label_of, cell_label_with}
 use Rattle.cell_floods.proofs.Where.{levels_where-at}
 use Rattle.fill.proofs.Gathered.{labels_within}
+use Rattle.cell_floods.proofs.Rectangles.{data_is}
 use Rattle.cell_floods.proofs.TileRectangles.{data_within}
 use Rattle.terrain.proofs.Options.{cases_option, match_of, none_some}
-use Rattle.fill.proofs.LabelNets.{HasTileLevel, IsLabelNet, has_tile_level, among_is, filled_height_is, list_there}
+use Rattle.fill.proofs.LabelNets.{HasTileLevel, IsLabelNet, has_tile_level, among_is, filled_height_is, list_there, low_below, low_from_label}
 use Rattle.std.specs.List.{Contains, All}
 use Rattle.std.proofs.lemmas.Option.{MatchOption-at_some, MatchOption-at_none, get_or_from_slice_get, slice_get_within, same_Some}
 use Rattle.std.proofs.lemmas.List.Elements.{All-contains, All-from_get_or}
@@ -49,89 +53,53 @@ use Rattle.tile_maps.specs.Maps.{IsMadeMap}
 use Rattle.tile_maps.proofs.Whole.{map_of_size}
 use Rattle.drainage.proofs.FilledTwice.{filled_twice}
 
-pub no_entries : (entry : ℕ → Option ℤ) (list : List (Option ℤ)) → list ≡ [] →
-    IsListOf entry 0 list
-no_entries entry list none = record {
-  size = ap length none;
-  each = λ k low. absurd (omega (arith, low));
-}
-
-pub one_entry : (entry : ℕ → Option ℤ) (i : ℕ) (now next : List (Option ℤ)) (x : Option ℤ)
-    → next ≡ now ++ x ∷ [] → x ≡ entry i → IsListOf entry i now → IsListOf entry (i + 1) next
-one_entry entry i now next x more is s = subst (IsListOf entry (i + 1)) (sym more) (record {
-  size = length_push now x ∙ ap (λ n. n + 1) s.size;
-  each = λ k low. elim (cases_eq k i) [
-    | inl same ↦ get_or_push now x None k (s.size ∙ sym same) ∙ is ∙ ap entry (sym same)
-    | inr other ↦
-        get_or_append_left now (x ∷ []) None k (omega (arith, low, other, s.size))
-        ∙ s.each k (omega (arith, low, other))
-  ];
-})
-
-pub all_entries : (entry : ℕ → Option ℤ) (i count : ℕ) (list : List (Option ℤ))
-    → i ≤ count → count ≤ i → IsListOf entry i list → IsListOf entry count list
-all_entries entry i count list below past s =
-    subst (λ n. IsListOf entry n list) (omega (arith, below, past)) s
-
--- If h is at most NODATA's number, storing the least crest first changes no stored raised height.
-greater_stored : (h : ℤ) (crest : Option ℤ) → h ≤ℤ no_data →
-    cell_of (greater_of (Some h) (cell_of crest)) ≡ cell_of (greater_of (Some h) crest)
-greater_stored h None low = refl
-greater_stored h (Some z) low = elim (cases_Bool (int_eq z no_data)) [
-  | inl lacks ↦
-      let is : z ≡ no_data = (Decides-int_eq z no_data).0 lacks in
-      let most : int_max h z ≡ no_data = omega (arith, ints, clamps, low, is) in
-      ap (λ (o : Option ℤ). cell_of (greater_of (Some h) o)) (cond-true _ _ _ lacks)
-      ∙ sym (ap stored_cell most)
-  | inr other ↦ ap (λ (o : Option ℤ). cell_of (greater_of (Some h) o)) (cond-false _ _ _ other)
-]
-
--- The lists of a raised tile give a cell, in stored form, the raised height that the flood and
--- `levels` give. The entry of its `heights` must be at most NODATA's number.
-pub raised_stored : (first : ℕ) (f : Flood) (levels : List (Option ℤ)) (x : RaisedTile) (i : ℕ) →
-    IsRaisedTile first f levels x → i < length f.labels → get_or x.heights.now i (pos 0) ≤ℤ no_data
-    → cell_of (greater_of
-    (Some (get_or x.heights.now i (pos 0))) (get_or x.crests.items (get_or x.labels.now.indexes i 0) None))
-    ≡ cell_of (greater_of (get_or f.levels i None) (crest_with levels (cell_label_with first f i)))
-raised_stored first f levels x i tile below low =
+-- The lists of a raised tile give a cell the raised height that the flood and the crests give. A
+-- cell without a label has the first entry of the table, which has no crest.
+pub raised_stored : (first : ℕ) (f : Flood) (crests : List (Option ℤ)) (x : RaisedTile) (i : ℕ) →
+    IsRaisedTile first f crests x → (0 < length f.table.places → get_or crests (first + 0) None ≡ None) →
+    i < length f.labels →
+    cell_at x i ≡ cell_of (greater_of (get_or f.levels i None) (crest_with crests (cell_label_with first f i)))
+raised_stored first f crests x i tile bare below =
     let h = get_or x.heights.now i (pos 0) in
     let k = get_or f.table.indexes i 0 in
-    let entry : get_or x.labels.now.indexes i 0 ≡ k = ap (λ (z : List ℕ). get_or z i 0) tile.labels in
     let inside : i < length f.table.indexes = omega (arith, below, table_size) in
     let listed : get_or f.labels i None ≡ get_or f.table.places k None =
     ap (λ (z : List (Option Place)). get_or z i None) tile.lawful.labels
     ∙ get_or-map (λ n. get_or f.table.places n None) f.table.indexes i 0 None inside in
-    let stored : get_or x.crests.items k None ≡ cell_of (crest_at levels first f.table.places k) =
-    tile.crests.each k (tile.lawful.table.inside i 0 inside) in
     let level : get_or f.levels i None ≡ option_map (λ _. h) (get_or f.labels i None) =
     ap (λ (z : List (Option ℤ)). get_or z i None) tile.heights
     ∙ levels_where-at f.labels x.heights.now i (sym tile.size) in
-    ap (λ n. cell_of (greater_of (Some h) (get_or x.crests.items n None))) entry
-    ∙ ap (λ o. cell_of (greater_of (Some h) o)) stored
-    ∙ greater_stored h (crest_at levels first f.table.places k) low
-    ∙ ap (λ o.
-    cell_of o) (crest_by (get_or f.labels i None) (get_or f.levels i None) h k listed level)
+    ap (λ (z : List ℕ). cell_of (greater_of (Some h) (get_or x.crests.now (get_or z i 0) None))) tile.labels
+    ∙ ap (λ o. cell_of (greater_of (Some h) o)) (tile.each k (tile.lawful.table.inside i 0 inside))
+    ∙ ap cell_of (by (get_or f.labels i None) (get_or f.levels i None) h k listed level
+    (tile.lawful.table.inside i 0 inside))
   where
     table_size : length f.labels ≡ length f.table.indexes
     table_size = ap length tile.lawful.labels
         ∙ length-map f.table.indexes (λ n. get_or f.table.places n None)
 
-    crest_by : (label : Option Place) (level : Option ℤ) (h : ℤ) (k : ℕ) →
-        label ≡ get_or f.table.places k None → level ≡ option_map (λ _. h) label
-        → greater_of (Some h) (crest_at levels first f.table.places k)
-        ≡ greater_of level (crest_with levels (cell_label_of (first + k) level label))
-    crest_by None level h k listed is = rw (← listed, is) refl
-    crest_by (Some p) level h k listed is = rw (← listed, is) refl
+    by : (label : Option Place) (level : Option ℤ) (h : ℤ) (k : ℕ) →
+        label ≡ get_or f.table.places k None → level ≡ option_map (λ _. h) label →
+        k < length f.table.places →
+        greater_of (Some h) (get_or crests (first + k) None)
+        ≡ greater_of level (crest_with crests (cell_label_of (first + k) level label))
+    by (Some p) level h k listed is low = rw is refl
+    by None level h k listed is low = elim (cases_eq k 0) [
+      | inl none ↦
+          ap (λ n. greater_of (Some h) (get_or crests (first + n) None)) none
+          ∙ ap (greater_of (Some h)) (bare (omega (arith, low))) ∙ sym (rw is refl)
+      | inr some ↦ absurd (cc (tile.lawful.table.rest k (omega (arith, some)) low, listed))
+    ]
 
-pub stored_inside : (first : ℕ) (f : Flood) (levels : List (Option ℤ)) (x : RaisedTile) →
-    IsRaisedTile first f levels x → All (λ k. k < length x.crests.items) x.labels.now.indexes
-stored_inside first f levels x tile i d below =
+pub stored_inside : (first : ℕ) (f : Flood) (crests : List (Option ℤ)) (x : RaisedTile) →
+    IsRaisedTile first f crests x → All (λ k. k < length x.crests.now) x.labels.now.indexes
+stored_inside first f crests x tile i d below =
     let at : i < length f.table.indexes = omega (arith, below, ap length tile.labels) in
     omega (
       arith,
       tile.lawful.table.inside i d at,
       ap (λ (z : List ℕ). get_or z i d) tile.labels,
-      tile.crests.size,
+      tile.crests_size,
     )
 
 -- The raised height of a place; `levels` has the least crests of labels by place.
@@ -201,10 +169,11 @@ raised_tile c floods tile f levels raised h fit there is =
     )
 
 -- A tile's lists give its places their raised cells.
-pub raised_places : (c : Cutting) (floods : List Flood) (tile : ℕ) (f : Flood) (levels : List (Option ℤ))
+pub raised_places : (c : Cutting) (floods : List Flood) (tile : ℕ) (f : Flood) (crests : List (Option ℤ))
     (x : RaisedTile) → IsCutting c → Fit c floods → slice_get floods tile ≡ Some f → tile < tile_count c →
-    IsRaisedTile (first_of floods tile) f levels x → HasTile x (raised_cell c floods levels) c tile
-raised_places c floods tile f levels x h fit there low by p inside stored =
+    (0 < length f.table.places → get_or crests (first_of floods tile + 0) None ≡ None) →
+    IsRaisedTile (first_of floods tile) f crests x → HasTile x (raised_cell c floods crests) c tile
+raised_places c floods tile f crests x h fit there low bare by p inside =
     let b = bounds_of c tile in
     let k = index_in b p in
     let i = index_of c.cols p in
@@ -214,9 +183,9 @@ raised_places c floods tile f levels x h fit there low by p inside stored =
     let col : p.col < c.cols = omega (arith, inside, (bounds_inside c tile h low).cols_inside) in
     let place : record { row = i / c.cols; col = i % c.cols } ≡ p =
     same_place _ p (div-mul-add p.row c.cols p.col col) (mod-mul-add p.row c.cols p.col col) in
-    ap (λ q. cell_of (raised_among c floods levels q)) place
-    ∙ sym (ap cell_of (number_here c floods tile k f levels p h fit there (in_tile c tile p h low inside) refl))
-    ∙ sym (raised_stored (first_of floods tile) f levels x k by below stored)
+    ap (λ q. cell_of (raised_among c floods crests q)) place
+    ∙ sym (ap cell_of (number_here c floods tile k f crests p h fit there (in_tile c tile p h low inside) refl))
+    ∙ sym (raised_stored (first_of floods tile) f crests x k by bare below)
 
 -- The cells read, with the runs of all tiles in their places, are the raised cells.
 pub patched_map : (c : Cutting) (floods : List Flood) (levels cells whole : List (Option ℤ))
@@ -225,7 +194,8 @@ pub patched_map : (c : Cutting) (floods : List Flood) (levels cells whole : List
     AreTileRuns (raised_cell c floods levels) (record { cutting = c; tile = tile; cells = cells }) runs.items)
     (tile_count c) tiles → ((raised : ℕ → Option ℤ) → AreAllRaised raised tiles →
     IsPatched raised cells (IsInTiles tiles) whole) →
-    IsMadeMap c (λ p cell. cell ≡ cell_of (raised_among c floods levels p)) whole
+    IsMadeMap c (λ p cell. (cell ≡ cell_of (raised_among c floods levels p))
+    × (IsInTiles tiles (index_of c.cols p) ⊎ (cell ≡ get_or cells (index_of c.cols p) None))) whole
 patched_map c floods levels cells whole tiles h size count given patched =
     let raised = raised_cell c floods levels in
     let all = patched raised (λ runs at.
@@ -246,15 +216,20 @@ patched_map c floods levels cells whole tiles h size count given patched =
           let are : AreTileRuns raised (record { cutting = c; tile = tile; cells = cells }) runs.0.items =
           subst (λ (z : Vec RaisedRun Global). AreTileRuns raised
           (record { cutting = c; tile = tile; cells = cells }) z.items) same (given tile runs.0 low) in
+          let entry_is = sym (get_or_from_slice_get whole i entry None is) in
           let value : get_or whole i None ≡ raised i = elim (all.each i below) [
-            | inl found ↦ found
+            | inl found ↦ found.1
             | inr as_read ↦ elim (are.each p (in_bounds c tile p h (within, refl))) [
               | inl there ↦ absurd (as_read.1 (runs.0, (tile, omega (arith, low, count), same), there))
               | inr level ↦ as_read.0 ∙ level
             ]
-          ] in
-          sym (get_or_from_slice_get whole i entry None is) ∙ value
-          ∙ ap (λ q. cell_of (raised_among c floods levels q)) place;
+          ] in (
+            entry_is ∙ value ∙ ap (λ q. cell_of (raised_among c floods levels q)) place,
+            elim (all.each i below) [
+              | inl found ↦ inl found.0
+              | inr as_read ↦ inr (entry_is ∙ as_read.0)
+            ],
+          );
     }
 
 label_inside : (t : Terrain) (c : Cutting) (floods : List Flood) (p label : Place) →
@@ -296,7 +271,7 @@ place_net t c floods g are graph = record {
         greater = meet.greater;
       } in
       let join = graph.joined a b h differ pass in
-      inl (inr (join.0, join.1, (graph.joined_only a b join.0 join.1).least h pass));
+      (join.0, join.1, (graph.joined_only a b join.0 join.1).least h pass);
   joined_only = λ a b h join.
       let pass = (graph.joined_only a b h join).pass in
       record {
@@ -392,59 +367,144 @@ fits_in_cell : (t : Terrain) (p : Place) (level : ℤ) → IsTerrain t → IsFil
 fits_in_cell t p level lawful filled = stored_some level (All-contains (λ c. IfSome c IsHeight)
     t.cells (Some level) lawful.heights (filled_height_occurs t p level filled)).1
 
--- If `levels` has the least crests of labels by number, the raised height of a place is its filled
--- height, None without data.
-filled_cell : (t : Terrain) (c : Cutting) (floods : List Flood) (arcs : List (List Spill))
-    (sources levels : List (Option ℤ)) → IsTerrain t → AreFloods t c floods → AreLawful floods →
-    IsNumberGraph t c floods arcs sources → AreNumberLevels arcs sources levels → (p : Place) →
-    IsWithin c p →
-    (entry : Option ℤ) → entry ≡ cell_of (raised_among c floods levels p) → MatchOption (height_at t
-    p) (entry ≡ None) (λ _. (level : ℤ) × (entry ≡ Some level) × IsFilledHeight t p level)
-filled_cell t c floods arcs sources levels heights are lawful graph least p within entry e =
-    let raised =
-    raised_filled t c floods p are within (crest_with levels (cell_label_among c floods p))
-    (λ l data_is.
-    let f = list_there floods (tile_of_place c p)
-    (omega (arith, are.count, tile_of_place_below c p are.lawful within)) in
-    let m = has_cell_label c floods p l.level l.label f.0 f.1 l.level_is l.label_is in
-    let below = number_below c floods p _ lawful m.1 in
-    let filled = filled_height_is t c floods are.lawful are (number_among c floods) (HasArc arcs)
-    (source_number sources) (number_net t c floods are lawful arcs sources graph)
-    (length arcs) levels least.0 least.1 p m.0 l data_is
-    (ap (option_map (λ (x : CellLabel). x.node)) m.1) (omega (arith, below, graph.count)) in
-    (filled.0, ap (crest_with levels) m.1 ∙ filled.1, filled.2)) in
-    match_of (height_at t p) _ _
-    (λ none. e ∙ ap cell_of (MatchOption-at_none _ _ none raised))
-    (λ h some. let filled = MatchOption-at_some _ _ h some raised in
-    (filled.0, e ∙ ap cell_of filled.1 ∙ fits_in_cell t p filled.0 heights filled.2, filled.2))
+-- Filled heights, stored as cells, are filled heights.
+pub filled_stored : (t : Terrain) (levels : List (Option ℤ)) → IsTerrain t → IsFilled t levels →
+    IsFilled t (map cell_of levels)
+filled_stored t levels lawful filled = record {
+  size = length-map levels cell_of ∙ filled.size;
+  each = λ p inside.
+      let i = index_of t.cols p in
+      let low : i < length levels =
+      omega (arith, filled.size, index_below t.cols t.rows p inside.0 inside.1) in
+      let entry : entry_at t.cols t.rows (map cell_of levels) p ≡ cell_of (entry_at t.cols t.rows levels p) =
+      entry-inside t.cols t.rows (map cell_of levels) p inside.0 inside.1
+      ∙ get_or-map cell_of levels i None None low
+      ∙ ap cell_of (sym (entry-inside t.cols t.rows levels p inside.0 inside.1)) in
+      match_of (height_at t p) _ _
+      (λ none. entry ∙ ap cell_of (MatchOption-at_none _ _ none (filled.each p inside)))
+      (λ h some. let level = MatchOption-at_some _ _ h some (filled.each p inside) in
+      (level.0, entry ∙ ap cell_of level.1 ∙ fits_in_cell t p level.0 lawful level.2, level.2));
+}
 
--- The whole grid is raised to its filled heights.
-pub filled_map : (t : Terrain) (c : Cutting) (floods : List Flood) (arcs : List (List Spill))
-    (sources levels whole : List (Option ℤ)) → IsTerrain t → AreFloods t c floods →
-    AreLawful floods → IsNumberGraph t c floods arcs sources → AreNumberLevels arcs sources levels →
-    IsMadeMap c (λ p cell. cell ≡ cell_of (raised_among c floods levels p)) whole → IsFilled t whole
-filled_map t c floods arcs sources levels whole heights are lawful graph least made =
-    let all = map_of_size c t.cols t.rows (λ p cell.
-    cell ≡ cell_of (raised_among c floods levels p)) whole are.cuts.0 are.cuts.1 made in
-    record {
-      size = all.0;
-      each = λ p inside. filled_cell t c floods arcs sources levels heights are lawful graph least p
-          (omega (arith, inside, are.cuts), omega (arith, inside, are.cuts))
-          (entry_at t.cols t.rows whole p) (all.1 p inside);
-    }
+-- Only the height that it stores is a cell's height.
+stored_back : (o : Option ℤ) (level : ℤ) → cell_of o ≡ Some level → o ≡ Some level
+stored_back None level is = absurd (cc)
+stored_back (Some z) level is = elim (cases_Bool (int_eq z no_data)) [
+  | inl lacks ↦ none_some (stored_cell z) level (cond-true _ _ _ lacks) is
+  | inr other ↦ sym (cond-false _ _ _ other) ∙ is
+]
+
+-- Some path from a cell does not exceed its raised height.
+raised_low : (t : Terrain) (c : Cutting) (floods : List Flood) (crests : List (Option ℤ)) →
+    AreFloods t c floods → AreLawful floods → AreCrests t (places_of floods) crests → (p : Place) (level : ℤ) →
+    IsDataCell t p → raised_among c floods crests p ≡ Some level → HasLowPath t level p
+raised_low t c floods crests are lawful all p level has is =
+    let l = has_tile_level t c floods are.lawful are p has in
+    let f = list_there floods (tile_of_place c p)
+    (omega (arith, are.count, tile_of_place_below c p are.lawful (data_within t c p are.cuts has))) in
+    let m = has_cell_label c floods p l.level l.label f.0 f.1 l.level_is l.label_is in
+    let number : CellLabel = record { level = l.level; node = m.0 } in
+    let x = numbered c floods p number lawful m.1 in
+    let sum : greater_of (Some l.level) (get_or crests m.0 None) ≡ Some level =
+    sym (ap (λ o. greater_of o (get_or crests m.0 None)) l.level_is)
+    ∙ sym (ap (λ o. greater_of (level_among c floods p) (crest_with crests o)) m.1) ∙ is in
+    elim (cases_option (get_or crests m.0 None)) [
+      | inl none ↦ none_some (greater_of (Some l.level) (get_or crests m.0 None)) level
+          (ap (greater_of (Some l.level)) none) sum
+      | inr crest ↦
+          let leaves = all m.0 crest.0 crest.1 in
+          let label = same_Some leaves.0 l.label
+          (sym leaves.1 ∙ number_label c floods p number x ∙ sym x.label_is ∙ l.label_is) in
+          let total : int_max l.level crest.0 ≡ level =
+          same_Some _ _ (sym (ap (greater_of (Some l.level)) crest.1) ∙ sum) in
+          subst (λ z. HasLowPath t z p) total
+          (low_from_label t c p l.label l.level (int_max l.level crest.0) l.right (max_left l.level crest.0)
+          (low_below t crest.0 (int_max l.level crest.0) l.label (max_right l.level crest.0)
+          (subst (HasLowPath t crest.0) label leaves.2)))
+    ]
+
+-- Raised cells are the filled heights of the grid if those that rose are held.
+module _ (t : Terrain) (c : Cutting) (floods : List Flood) (crests whole : List (Option ℤ))
+    (tiles : List (Vec RaisedRun Global)) (lawful : AreLawful floods) (are : AreFloods t c floods)
+    (all : AreCrests t (places_of floods) crests)
+    (made : IsMadeMap c (λ p cell. (cell ≡ cell_of (raised_among c floods crests p))
+    × (IsInTiles tiles (index_of c.cols p) ⊎ (cell ≡ get_or t.cells (index_of c.cols p) None))) whole)
+    (held : AreHeldTiles c.cols whole tiles) (sinks : AreAsRead c.cols t.cells whole t.sinks) where
+  map_is : (length whole ≡ t.cols * t.rows) × ((p : Place) → IsInside t p →
+      (entry_at t.cols t.rows whole p ≡ cell_of (raised_among c floods crests p))
+      × (IsInTiles tiles (index_of c.cols p)
+      ⊎ (entry_at t.cols t.rows whole p ≡ get_or t.cells (index_of c.cols p) None)))
+  map_is = map_of_size c t.cols t.rows _ whole are.cuts.0 are.cuts.1 made
+
+  bare : (p : Place) → IsInside t p → height_at t p ≡ None → entry_at t.cols t.rows whole p ≡ None
+  bare p inside none = (map_is.1 p inside).0
+      ∙ ap (λ o. cell_of (greater_of o (crest_with crests (cell_label_among c floods p)))) (no_level p inside none)
+    where
+      no_level : (p : Place) → IsInside t p → height_at t p ≡ None → level_among c floods p ≡ None
+      no_level p inside none =
+          let within : IsWithin c p = (omega (arith, inside, are.cuts), omega (arith, inside, are.cuts)) in
+          let tile = tile_of_place c p in
+          let f =
+          list_there floods tile (omega (arith, are.count, tile_of_place_below c p are.lawful within)) in
+          among_is (λ g. level_in g p) floods tile f.0 f.1
+          ∙ (MatchOption-at_none _ _ none ((are.each tile f.0 f.1).each p (within, refl))).0
+
+  each : (p : Place) → IsDataCell t p → (level : ℤ) × IsSettled t whole p level
+  each p has =
+      let height = data_is (height_at t p) has in
+      let inside = inside_from_entry t.cols t.rows t.cells p height.0 height.1 in
+      let e = map_is.1 p inside in
+      let at : get_or whole (index_of t.cols p) None ≡ entry_at t.cols t.rows whole p =
+      sym (entry-inside t.cols t.rows whole p inside.0 inside.1) in
+      let index : index_of c.cols p ≡ index_of t.cols p = ap (λ n. index_of n p) are.cuts.0 in
+      let of_level : (level : ℤ) → entry_at t.cols t.rows whole p ≡ Some level →
+      (IsHeld t.cols whole (index_of t.cols p)
+      ⊎ (get_or whole (index_of t.cols p) None ≡ get_or t.cells (index_of t.cols p) None)) →
+      (level : ℤ) × IsSettled t whole p level = λ level is way. (
+        level,
+        settled t whole map_is.0 bare (subst (λ n. AreAsRead n t.cells whole t.sinks) are.cuts.0 sinks) p level has is
+            (raised_low t c floods crests are lawful all p level has (stored_back _ level (sym e.0 ∙ is))) way,
+      ) in
+      elim e.1 [
+        | inl risen ↦
+            let own : IsHeld t.cols whole (index_of t.cols p) = subst (IsHeld t.cols whole) index
+            (subst (λ n. IsHeld n whole (index_of c.cols p)) are.cuts.0 (held (index_of c.cols p) risen)) in
+            of_level own.around.level (sym at ∙ own.around.is) (inl own)
+        | inr as_read ↦
+            let read : entry_at t.cols t.rows whole p ≡ get_or t.cells (index_of t.cols p) None =
+            as_read ∙ ap (λ n. get_or t.cells n None) index in
+            of_level height.0
+            (read ∙ sym (entry-inside t.cols t.rows t.cells p inside.0 inside.1) ∙ height.1) (inr (at ∙ read))
+      ]
+
+  pub filled_map : IsFilled t whole
+  filled_map = settled_filled t whole each map_is.0 bare
+
+-- The terrain that the view of a tile shows, with the sinks, is the grid's.
+terrain_of_view : (t : Terrain) (c : Cutting) (job : ℕ) (v : View (Option ℤ)) (cells : List (Option ℤ))
+    (sinks : List Place) → Cuts c t → v ≡ record { cutting = c; tile = job; cells = cells } →
+    cells ≡ t.cells → sinks ≡ t.sinks → with_sinks (terrain_of v) sinks ≡ t
+terrain_of_view t c job v cells sinks cuts view same named =
+    ap (λ (x : View (Option ℤ)). with_sinks (terrain_of x) sinks) view
+    ∙ ap (λ n. record { cols = n; rows = c.rows; cells = cells; sinks = sinks }) cuts.0
+    ∙ ap (λ n. record { cols = t.cols; rows = n; cells = cells; sinks = sinks }) cuts.1
+    ∙ ap (λ z. record { cols = t.cols; rows = t.rows; cells = z; sinks = sinks }) same
+    ∙ ap (λ z. record { cols = t.cols; rows = t.rows; cells = t.cells; sinks = z }) named
 
 pub flood_of_view : (t : Terrain) (c : Cutting) (job : ℕ) (v : View (Option ℤ))
     (cells : List (Option ℤ)) (sinks : List Place) (f : Flood) → Cuts c t →
     v ≡ record { cutting = c; tile = job; cells = cells } → cells ≡ t.cells → sinks ≡ t.sinks →
     IsTileFlood (with_sinks (terrain_of v) sinks) v.cutting v.tile f → IsTileFlood t c job f
 flood_of_view t c job v cells sinks f cuts view same named flood =
-    subst (λ (x : Terrain). IsTileFlood x c job f)
-    (ap (λ n. record { cols = n; rows = c.rows; cells = cells; sinks = sinks }) cuts.0
-    ∙ ap (λ n. record { cols = t.cols; rows = n; cells = cells; sinks = sinks }) cuts.1
-    ∙ ap (λ z. record { cols = t.cols; rows = t.rows; cells = z; sinks = sinks }) same
-    ∙ ap (λ z. record { cols = t.cols; rows = t.rows; cells = t.cells; sinks = z }) named)
-    (subst (λ (x : View (Option ℤ)).
-    IsTileFlood (with_sinks (terrain_of x) sinks) x.cutting x.tile f) view flood)
+    subst (λ (x : Terrain). IsTileFlood x c job f) (terrain_of_view t c job v cells sinks cuts view same named)
+    (subst (λ (x : View (Option ℤ)). IsTileFlood (with_sinks (terrain_of v) sinks) x.cutting x.tile f) view flood)
+
+pub meetings_of_view : (t : Terrain) (c : Cutting) (job : ℕ) (v : View (Option ℤ))
+    (cells : List (Option ℤ)) (sinks : List Place) (f : Flood) (met : List Meeting) → Cuts c t →
+    v ≡ record { cutting = c; tile = job; cells = cells } → cells ≡ t.cells → sinks ≡ t.sinks →
+    All (IsMeeting (with_sinks (terrain_of v) sinks) f) met → All (IsMeeting t f) met
+meetings_of_view t c job v cells sinks f met cuts view same named all =
+    subst (λ (x : Terrain). All (IsMeeting x f) met) (terrain_of_view t c job v cells sinks cuts view same named) all
 
 pub filled_stand : (t : Terrain) (levels : List (Option ℤ)) → IsFilled t levels →
     All (λ c. IfSome c (λ h. Contains t.cells (Some h))) levels

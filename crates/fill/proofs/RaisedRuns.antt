@@ -1,5 +1,5 @@
 -- A cell added to runs, a row's cells added, and runs put into their places in a list.
-use Rattle.std.proofs.Common.{◌≡◌, ℕ, ◌+◌, ◌-◌, ◌*◌, ◌<◌, ◌⊎◌, ℤ, List, [], ◌∷◌, ◌++◌, get_or, Option, None, arith, refl, ap, sym, ◌∙◌, subst, inl, inr}
+use Rattle.std.proofs.Common.{◌≡◌, ℕ, ◌+◌, ◌-◌, ◌*◌, ◌<◌, ◌⊎◌, ◌↔◌, ℤ, List, [], ◌∷◌, ◌++◌, get_or, Option, None, arith, refl, ap, sym, ◌∙◌, subst, inl, inr}
 use Rattle.std.specs.List.{Contains}
 use Rattle.std.proofs.lemmas.Bool.{cases_eq, cases_lt}
 use Rattle.std.proofs.lemmas.List.Elements.{Contains-append_left, Contains-push, Contains-push_cases}
@@ -7,7 +7,7 @@ use Rattle.terrain.specs.Neighbours.{index_of}
 use Rattle.terrain.specs.declared.place.Place.{Place}
 use Rattle.tiles.specs.Cutting.{Cutting, IsInBounds, View, bounds_of, index_in, row_shown}
 use Rattle.tiles.proofs.TileRows.{row_has}
-use Rattle.fill.specs.RaisedTiles.{HasRow, HasTile, IsStored, cell_at}
+use Rattle.fill.specs.RaisedTiles.{HasRow, HasTile, cell_at}
 use Rattle.fill.specs.declared.raised_tiles.RaisedTile.{RaisedTile}
 use Rattle.fill.specs.RaisedRuns.{AddsRow, AddsRun, AreRaised, IsFound, IsInRun, IsInRuns, IsPatched, PutsRun}
 use Rattle.fill.specs.declared.raised_runs.RaisedRun.{RaisedRun}
@@ -107,7 +107,7 @@ pub row_of_tile : (x : RaisedTile) (raised : ℕ → Option ℤ) (c : Cutting) (
     row < (bounds_of c tile).rows → HasTile x raised c tile →
     let b = bounds_of c tile in
     HasRow x raised (row * b.cols) ((b.top + row) * c.cols + b.left) b.cols
-row_of_tile x raised c tile row low all k below stored =
+row_of_tile x raised c tile row low all k below =
     let b = bounds_of c tile in
     let p : Place = record { row = b.top + row; col = b.left + k } in
     let grid : (b.top + row) * c.cols + b.left + k ≡ index_of c.cols p = omega arith in
@@ -116,7 +116,6 @@ row_of_tile x raised c tile row low all k below stored =
     ap (λ n. n * b.cols + (p.col - b.left)) r ∙ ap (λ n. row * b.cols + n) (omega arith) in
     ap raised grid
     ∙ all p (omega arith, omega (arith, low), omega arith, omega (arith, below))
-    (subst (IsStored x) (sym own) stored)
     ∙ ap (cell_at x) own
 
 pub next_row : (raised : ℕ → Option ℤ) (v : View (Option ℤ)) (row : ℕ) (old new : List RaisedRun) →
@@ -162,17 +161,17 @@ in_run r i = elim (cases_lt i r.first) [
 ]
 
 pub patched_then : (raised : ℕ → Option ℤ) (old now next : List (Option ℤ)) (A B C : ℕ → Type 0) →
-    ((i : ℕ) → C i → A i ⊎ B i) → IsPatched raised old A now → IsPatched raised now B next →
+    ((i : ℕ) → C i ↔ (A i ⊎ B i)) → IsPatched raised old A now → IsPatched raised now B next →
     IsPatched raised old C next
 patched_then raised old now next A B C part a b = record {
   size = b.size ∙ a.size;
   each = λ i below. elim (b.each i (omega (arith, below, a.size))) [
-    | inl is ↦ inl is
+    | inl is ↦ inl ((part i).1 (inr is.0), is.1)
     | inr still ↦ elim (a.each i below) [
-      | inl is ↦ inl (still.0 ∙ is)
+      | inl is ↦ inl ((part i).1 (inl is.0), still.0 ∙ is.1)
       | inr as_read ↦ inr (
         still.0 ∙ as_read.0,
-        λ x. elim (part i x) [
+        λ x. elim ((part i).0 x) [
           | inl there ↦ as_read.1 there
           | inr there ↦ still.1 there
         ],
@@ -186,18 +185,24 @@ pub patched_run : (raised : ℕ → Option ℤ) (r : RaisedRun) (old new : List 
 patched_run raised r old new sound s = record {
   size = s.size;
   each = λ i below. elim (in_run r i) [
-    | inl inside ↦ inl (s.inside i below inside ∙ sound i inside)
+    | inl inside ↦ inl (inside, s.inside i below inside ∙ sound i inside)
     | inr outside ↦ inr (s.outside i outside, outside)
   ];
 }
 
--- What is in one of `front` and `x` is in `x`, or in one of `front`.
+-- What is in one of `front` and `x` is in one of `front` or in `x`.
 pub in_pushed : {X : Type 0} (IsIn : X → ℕ → Type 0) (front : List X) (x : X) (i : ℕ) →
-    (y : X) × Contains (front ++ x ∷ []) y × IsIn y i → ((y : X) × Contains front y × IsIn y i) ⊎ IsIn x i
-in_pushed IsIn front x i is = elim (Contains-push_cases front x is.0 is.1) [
-  | inl there ↦ inl (is.0, there, is.2)
-  | inr same ↦ inr (subst (λ y. IsIn y i) (sym same) is.2)
-]
+    ((y : X) × Contains (front ++ x ∷ []) y × IsIn y i) ↔ (((y : X) × Contains front y × IsIn y i) ⊎ IsIn x i)
+in_pushed IsIn front x i = (
+  λ is. elim (Contains-push_cases front x is.0 is.1) [
+    | inl there ↦ inl (is.0, there, is.2)
+    | inr same ↦ inr (subst (λ y. IsIn y i) (sym same) is.2)
+  ],
+  λ is. elim is [
+    | inl there ↦ (there.0, Contains-append_left front (x ∷ []) there.0 there.1, there.2)
+    | inr own ↦ (x, Contains-push front x, own)
+  ],
+)
 
 pub patched_none : {X : Type 0} (IsIn : X → ℕ → Type 0) (raised : ℕ → Option ℤ) (cells : List (Option ℤ)) →
     IsPatched raised cells (λ i. (y : X) × Contains [] y × IsIn y i) cells

@@ -4,7 +4,7 @@ pub mod Gathering
 pub mod Ends
 pub mod Parts
 pub mod Placing
-pub mod Arcs
-pub mod LabelNet
+pub mod Crests
+pub mod Held
 pub mod RaisedTiles
 pub mod RaisedRuns

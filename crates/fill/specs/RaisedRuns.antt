@@ -59,9 +59,9 @@ AreAllRaised raised tiles =
 abbrev pub IsInTiles : List (Vec RaisedRun Global) → ℕ → Type 0
 IsInTiles tiles i = (runs : Vec RaisedRun Global) × Contains tiles runs × IsInRuns runs.items i
 
--- Each cell is its raised cell, or it is as it was and `IsIn` does not hold of it.
+-- Each cell of which `IsIn` holds is its raised cell. The others are as they were.
 pub record IsPatched (raised : ℕ → Option ℤ) (old : List (Option ℤ)) (IsIn : ℕ → Type 0)
     (new : List (Option ℤ)) : Type 0 where
   pub size : length new ≡ length old
-  pub each : (i : ℕ) → i < length old → (slice_index_or new i None ≡ raised i)
+  pub each : (i : ℕ) → i < length old → (IsIn i × (slice_index_or new i None ≡ raised i))
       ⊎ ((slice_index_or new i None ≡ slice_index_or old i None) × (IsIn i → ⊥))

@@ -64,10 +64,23 @@ pub(crate) fn cell_label_in(flood: &TileFlood, place: Place) -> Option<CellLabel
 }
 
 impl<'a> NumberedFloods<'a> {
+    /// Returns the cell label of a place; `None` outside the grid and without data.
+    /// The cell label gives the label by its number over all tiles.
+    #[inline(always)]
+    pub(crate) fn cell_label(&self, place: Place) -> Option<CellLabel>
+        requires { IsCutting self.now.tiling.now }
+        ensures { result ≡ cell_label_among self.now.tiling.now self.now.floods.now place }
+    {
+        if place.row >= self.tiling.rows() || place.col >= self.tiling.cols() {
+            return None;
+        }
+        self.cell_label_of_tile(self.tiling.tile_of(place), place)
+    }
+
     /// Returns the cell label of a place of tile `own`; `None` without data.
     /// The cell label gives the label by its number over all tiles.
     #[inline(always)]
-    pub(crate) fn cell_label_of_tile(&self, own: u32, place: Place) -> Option<CellLabel>
+    fn cell_label_of_tile(&self, own: u32, place: Place) -> Option<CellLabel>
         requires lawful { IsCutting self.now.tiling.now }
         requires place { IsInTile self.now.tiling.now own place }
         ensures { result ≡ cell_label_among self.now.tiling.now self.now.floods.now place }

@@ -1,47 +1,41 @@
 //! Computes the filled heights of a grid, tile by tile and with several workers: [`filled`].
 //!
 //! A first job for each tile floods the tile, which gives its cells levels and labels. Then the
-//! caller's thread floods the spill graph, which gives each label its least crest. A second job for
-//! each tile lists the cells that rise, to the greater of level and least crest of the label. The
-//! other cells keep the heights read.
+//! caller's thread finds each label's crest in the spill graph. A second job for each tile lists
+//! the cells that rise, to the greater of level and crest of the label. The other cells keep the
+//! heights read.
+//!
+//! Only soundness is proved of the search: water leaves each cell at its new height. A certificate
+//! shows that no cell is too high ([`are_held`]).
 ghost use Rattle.std.proofs.Props.{props};
-ghost use Rattle.std.specs.Prelude.{◌≡◌, ◌<◌, ◌≤◌, true, length, map, IfOk};
-ghost use Rattle.terrain.specs.Raster.{Terrain, IsTerrain};
+ghost use Rattle.std.specs.Prelude.{◌≡◌, ◌<◌, ◌≤◌, length, map, IfOk, IfSome};
+ghost use Rattle.terrain.specs.Raster.{Terrain};
+ghost use Rattle.terrain.specs.StoredCells.{cell_of};
 ghost use Rattle.drainage.specs.Filled.{IsFilled, IsFilledGrid};
 ghost use Rattle.tiles.specs.Cutting.{Cuts, IsCutting};
-ghost use Rattle.fill.specs.SpillGraph.{AreFloods};
-ghost use Rattle.fill.specs.LabelNet.{AreLabelLevels, IsNumberGraph};
+ghost use Rattle.fill.specs.Crests.{AreCrests, AreMet};
 ghost use Rattle.fill.specs.Numbers.{places_of};
-ghost use Rattle.fill.specs.Gathering.{AreInner};
+ghost use Rattle.fill.specs.SpillGraph.{AreFloods};
 ghost use Rattle.tile_jobs.specs.Fault.{RefusesWorkers};
 
 use crate::cell_labels::NumberedFloods;
-use crate::gathering::graph_joins;
-use crate::inner_joins::inner_joins;
-use crate::label_graph::{LabelGraph, LabelLevels};
-use crate::left_out::LeftOut;
+use crate::crests::label_crests;
+use crate::found_joins::found_joins;
+use crate::held::are_held;
 use crate::numbers::{first_numbers, label_ends};
 use crate::raised_runs::with_runs;
-use crate::raised_tiles::RaisedTiles;
-use crate::spill_graph::Join;
-use cell_floods::{TileFlood, tile_flood};
+use crate::raised_tiles::{RaisedTiles, cell};
+use cell_floods::{FloodWithMeetings, Meeting, TileFlood, filled_heights, flood_with_meetings};
 use drainage::Filled;
 use std::alloc::{AllocError, Global};
 use std::sync::Wait;
 use std::thread::Threads;
-use terrain::{Cell, Grid, NoMemory};
+use terrain::{Cell, Grid, Height, NoMemory};
 use tile_jobs::{Gate, JobFault, Work};
 use tile_maps::Runner;
 use tiles::Tiling;
 
-/// A tile's flood, and the joins inside the tile, except those that [`LeftOut`] describes.
-#[derive(Drop)]
-struct FloodWithJoins {
-    flood: TileFlood,
-    joins: Vec<Join>,
-}
-
-/// The jobs of the first stage: each floods a tile and finds the joins inside it.
+/// The jobs of the first stage: each floods a tile and finds where its labels meet.
 #[derive(Drop)]
 struct FloodJobs<'a> {
     grid: &'a Grid,
@@ -51,127 +45,94 @@ struct FloodJobs<'a> {
 }
 
 impl<'a> Work for FloodJobs<'a> {
-    type Out = FloodWithJoins;
+    type Out = FloodWithMeetings;
 
-    ghost use Rattle.std.specs.Prelude.{true};
+    ghost use Rattle.std.specs.List.{All};
     ghost use Rattle.tiles.specs.Cutting.{tile_count};
-    ghost use Rattle.cell_floods.specs.TileFlood.{IsTileFlood};
-    ghost use Rattle.fill.specs.Gathering.{IsInnerOf};
+    ghost use Rattle.cell_floods.specs.TileFlood.{IsMeeting, IsTileFlood};
 
     ghost most = { λ w. tile_count w.tiling.now };
 
     ghost gives = { λ w job out. IsTileFlood w.grid.now.terrain w.tiling.now job out.flood
-        × IsInnerOf true out.flood out.joins.items };
+        × All (IsMeeting w.grid.now.terrain out.flood) out.meetings.items };
 
-    fn run(&self, alloc: Global, job: u32) -> Result<FloodWithJoins, JobFault> {
+    fn run(&self, alloc: Global, job: u32) -> Result<FloodWithMeetings, JobFault> {
         let view = self.tiling.view(self.grid.cells(), job);
-        let Ok(flood) = tile_flood(alloc, &view, self.grid.sinks()) else {
+        let Ok(found) = flood_with_meetings(alloc, &view, self.grid.sinks()) else {
             return Err(JobFault::Memory);
         };
-        let left_out = LeftOut {
-            sources: flood.ends(),
-            bypassed: true,
-        };
-        let joins = inner_joins(alloc, &flood, &left_out)?;
-        drop(left_out);
-        Ok(FloodWithJoins { flood, joins })
+        Ok(found)
     }
 }
 
 fn into_lists(
     alloc: Global,
-    tiles: Vec<FloodWithJoins>,
-) -> Result<(Vec<TileFlood>, Vec<Vec<Join>>), AllocError>
+    tiles: Vec<FloodWithMeetings>,
+) -> Result<(Vec<TileFlood>, Vec<Vec<Meeting>>), AllocError>
     ensures floods { IfOk result (λ r. r.0.items ≡ map (λ x. x.flood) tiles.items) }
-    ensures joins { IfOk result (λ r. r.1.items ≡ map (λ x. x.joins) tiles.items) }
+    ensures meetings { IfOk result (λ r. r.1.items ≡ map (λ x. x.meetings) tiles.items) }
 {
     let mut floods = Vec::with_capacity(alloc, tiles.len())?;
-    let mut inner = Vec::with_capacity(alloc, tiles.len())?;
+    let mut met = Vec::with_capacity(alloc, tiles.len())?;
     for tile in tiles {
-        let FloodWithJoins { flood, joins } = tile;
+        let FloodWithMeetings { flood, meetings } = tile;
         floods.push(flood)?;
-        inner.push(joins)?;
+        met.push(meetings)?;
     }
-    Ok((floods, inner))
+    Ok((floods, met))
 }
 
 /// Floods each tile in a job.
-/// Returns, in tile order, the floods and the joins inside each tile, except those that [`LeftOut`]
-/// names.
+/// Returns, in tile order, the floods, and the meetings of each tile's labels.
 fn tile_floods<R: Threads + Wait + Sync, G: Gate + Sync>(
     runner: &Runner<'_, R, G>,
     grid: &Grid,
     tiling: &Tiling,
-) -> Result<(Vec<TileFlood>, Vec<Vec<Join>>), JobFault>
+) -> Result<(Vec<TileFlood>, Vec<Vec<Meeting>>), JobFault>
     requires { Cuts tiling.now grid.now.terrain }
     ensures floods { IfOk result (λ r. AreFloods grid.now.terrain tiling.now r.0.items) }
-    ensures inner { IfOk result (λ r. AreInner r.0.items true r.1.items) }
+    ensures meetings { IfOk result (λ r. AreMet grid.now.terrain r.0.items r.1.items) }
     ensures workers { RefusesWorkers runner.now.workers result }
 {
     let jobs = tiling.tiles();
     let tiles = runner.run(&FloodJobs { grid, tiling }, jobs)?;
-    let (floods, inner) = into_lists(runner.alloc, tiles)?;
-    Ok((floods, inner))
+    let (floods, met) = into_lists(runner.alloc, tiles)?;
+    Ok((floods, met))
 }
 
-/// Makes the spill graph of the floods, without the joins that [`LeftOut`] describes.
-/// `inner` has the joins inside each tile, except those that [`LeftOut`] describes.
-fn spill_graph(
+/// Returns a crest of each label, by its number, from the meetings of each tile's labels.
+fn crests_of(
     alloc: Global,
     tiles: &NumberedFloods<'_>,
-    inner: &[Vec<Join>],
-) -> Result<LabelGraph, AllocError>
-    requires floods { (t : Terrain) × AreFloods t tiles.now.tiling.now tiles.now.floods.now }
-    requires inner { AreInner tiles.now.floods.now true inner.now }
-    ensures { IfOk result (λ g. (t : Terrain)
+    meetings: &[Vec<Meeting>],
+) -> Result<Vec<Cell>, AllocError>
+    requires { (t : Terrain) × AreFloods t tiles.now.tiling.now tiles.now.floods.now
+        × AreMet t tiles.now.floods.now meetings.now }
+    ensures size { IfOk result (λ v. length (places_of tiles.now.floods.now) ≡ length v.items) }
+    ensures crests { IfOk result (λ v. (t : Terrain)
         → AreFloods t tiles.now.tiling.now tiles.now.floods.now
-        → IsNumberGraph t tiles.now.tiling.now tiles.now.floods.now g.arcs g.sources) }
+        → AreMet t tiles.now.floods.now meetings.now
+        → AreCrests t (places_of tiles.now.floods.now) v.items) }
 {
-    let sources = label_ends(alloc, tiles.floods)?;
-    let left_out = LeftOut {
-        sources: &sources,
-        bypassed: true,
-    };
-    let joins = graph_joins(alloc, tiles, &left_out, inner)?;
-    drop(left_out);
-    let graph = LabelGraph::of_joins(alloc, sources, joins)?;
-    Ok(graph)
-}
-
-/// Returns the least crest from each label to an end cell, by a flood of the spill graph.
-/// `inner` has the joins inside each tile, except those that [`LeftOut`] describes.
-fn label_levels(
-    alloc: Global,
-    tiles: &NumberedFloods<'_>,
-    inner: &[Vec<Join>],
-) -> Result<LabelLevels, NoMemory>
-    requires floods { (t : Terrain) × AreFloods t tiles.now.tiling.now tiles.now.floods.now }
-    requires inner { AreInner tiles.now.floods.now true inner.now }
-    ensures size { IfOk result (λ levels. length (places_of tiles.now.floods.now) ≤ length levels) }
-    ensures levels { IfOk result (λ levels. (t : Terrain)
-        → AreFloods t tiles.now.tiling.now tiles.now.floods.now
-        → AreLabelLevels t tiles.now.tiling.now tiles.now.floods.now levels) }
-{
-    let graph = spill_graph(alloc, tiles, inner)?;
-    let levels = graph.levels(alloc)?;
-    Ok(levels)
+    let joins = found_joins(alloc, tiles, meetings)?;
+    let ends = label_ends(alloc, tiles.floods)?;
+    label_crests(alloc, ends, joins)
 }
 
 /// Returns the filled height of each data cell, no data elsewhere, in row order.
-/// Floods the spill graph on the caller's thread, then raises each tile in a job. Frees the floods
-/// before it makes the list of all cells.
-/// `inner` has the joins inside each tile, except those that [`LeftOut`] describes.
+/// Finds the labels' crests on the caller's thread, then raises each tile in a job. Frees the
+/// floods before it makes the list of all cells. `None` where the cells have no certificate.
 fn filled_cells<R: Threads + Wait + Sync, G: Gate + Sync>(
     runner: &Runner<'_, R, G>,
     grid: &Grid,
     tiling: &Tiling,
     floods: Vec<TileFlood>,
-    inner: Vec<Vec<Join>>,
-) -> Result<Vec<Cell>, JobFault>
+    meetings: Vec<Vec<Meeting>>,
+) -> Result<Option<Vec<Cell>>, JobFault>
     requires floods { AreFloods grid.now.terrain tiling.now floods.items }
-    requires inner { AreInner floods.items true inner.items }
+    requires meetings { AreMet grid.now.terrain floods.items meetings.items }
     requires workers { (0 < runner.now.workers) × (runner.now.workers ≤ 64) }
-    ensures filled { IfOk result (λ v. IsFilled grid.now.terrain v.items) }
+    ensures filled { IfOk result (λ o. IfSome o (λ v. IsFilled grid.now.terrain v.items)) }
     ensures workers { RefusesWorkers runner.now.workers result }
 {
     let firsts = first_numbers(runner.alloc, tiling, &floods)?;
@@ -180,29 +141,80 @@ fn filled_cells<R: Threads + Wait + Sync, G: Gate + Sync>(
         floods: &floods,
         firsts: &firsts,
     };
-    let Ok(levels) = label_levels(runner.alloc, &tiles, &inner) else {
-        return Err(JobFault::Memory);
-    };
+    let crests = crests_of(runner.alloc, &tiles, &meetings)?;
     drop(tiles);
-    drop(inner);
+    drop(meetings);
     let read = grid.cells();
     let raised = RaisedTiles {
         read,
         tiling: *tiling,
         floods,
         firsts,
-        levels,
+        crests,
     };
     let runs = runner.run(&raised, tiling.tiles())?;
     drop(raised);
     let cells = with_runs(runner.alloc, read, &runs)?;
+    if are_held(tiling, read, &cells, &runs, grid.sinks()) {
+        Ok(Some(cells))
+    } else {
+        Ok(None)
+    }
+}
+
+/// Returns these heights as cells, in a list with room for `count`.
+fn cells_of(
+    alloc: Global,
+    count: usize,
+    heights: &[Option<Height>],
+) -> Result<Vec<Cell>, AllocError>
+    ensures { IfOk result (λ v. v.items ≡ map cell_of heights.now) }
+{
+    let mut cells = Vec::with_capacity(alloc, count)?;
+    for height in heights {
+        cells.push(cell(*height))?;
+    }
+    Ok(cells)
+}
+
+/// Returns the filled heights by one flood of the whole grid, which needs no certificate.
+#[inline(never)]
+fn flooded_whole(alloc: Global, grid: &Grid) -> Result<Vec<Cell>, NoMemory>
+    ensures { IfOk result (λ v. IsFilled grid.now.terrain v.items) }
+{
+    let heights = filled_heights(alloc, grid)?;
+    Ok(cells_of(alloc, grid.cells().len(), &heights)?)
+}
+
+/// Returns the filled height of each data cell, no data elsewhere, in row order.
+/// Takes those of [`filled_cells`], or where these have no certificate those of one flood.
+fn certified_cells<R: Threads + Wait + Sync, G: Gate + Sync>(
+    runner: &Runner<'_, R, G>,
+    grid: &Grid,
+    tiling: &Tiling,
+    floods: Vec<TileFlood>,
+    meetings: Vec<Vec<Meeting>>,
+) -> Result<Vec<Cell>, JobFault>
+    requires floods { AreFloods grid.now.terrain tiling.now floods.items }
+    requires meetings { AreMet grid.now.terrain floods.items meetings.items }
+    requires workers { (0 < runner.now.workers) × (runner.now.workers ≤ 64) }
+    ensures filled { IfOk result (λ v. IsFilled grid.now.terrain v.items) }
+    ensures workers { RefusesWorkers runner.now.workers result }
+{
+    if let Some(cells) = filled_cells(runner, grid, tiling, floods, meetings)? {
+        return Ok(cells);
+    }
+    let Ok(cells) = flooded_whole(runner.alloc, grid) else {
+        return Err(JobFault::Memory);
+    };
     Ok(cells)
 }
 
 /// Returns the grid with each height replaced by its filled height.
 ///
 /// A first job for each tile finds the levels and labels of its cells. Then the caller's thread
-/// floods the spill graph. A second job for each tile raises the levels to filled heights.
+/// finds the crests of the spill graph. A second job for each tile raises the levels to them. The
+/// caller's thread certifies the cells that rose, and floods the whole grid where it cannot.
 ///
 /// # Errors
 ///
@@ -233,8 +245,8 @@ pub fn filled<R: Threads + Wait + Sync, G: Gate + Sync>(
         workers,
         gate,
     };
-    let (floods, inner) = tile_floods(&runner, grid, tiling)?;
-    let cells = filled_cells(&runner, grid, tiling, floods, inner)?;
+    let (floods, meetings) = tile_floods(&runner, grid, tiling)?;
+    let cells = certified_cells(&runner, grid, tiling, floods, meetings)?;
     let Ok(filled) = grid.frame().with_cells(alloc, cells) else {
         return Err(JobFault::Memory);
     };

@@ -4,8 +4,8 @@
 //! each label its least crest. Raising gives a data cell the greater of its level and that crest.
 //!
 //! Begin with [`filled`], which runs all stages. [`SpillGraph`] and [`raise`] run single stages, on
-//! the full graph; [`filled`] leaves out two kinds of joins that lower no filled height. This crate
-//! also exports items of `cell_floods`, `drainage` and `floods`.
+//! the full graph; [`filled`] searches a part of it, and certifies what it finds. This crate also
+//! exports items of `cell_floods`, `drainage` and `floods`.
 //!
 //! Modules: first `filling`, then the other parts of [`filled`], last those of [`SpillGraph`] and
 //! [`raise`]:
@@ -13,36 +13,30 @@
 //! - `filling`: `filled`, which runs all stages
 //! - `numbers`: the numbers of labels, and the heights of end cells by number
 //! - `cell_labels`: the level and the label of a cell
-//! - `left_out`: which joins are left out, since they lower no filled height
-//! - `rim_cells`: the joins of cells in a tile's last row, first column and last column
-//! - `join_table`: the joins of one tile, by their labels
-//! - `inner_joins`: the joins inside a tile
-//! - `rim_joins`: the joins over a tile's rim
-//! - `gathering`: the joins of all tiles
-//! - `arcs`: the arcs from each label, as linked lists over one list of joins
-//! - `label_graph`: the spill graph by numbers of labels, and its least crests
-//! - `raised_tiles`: the cells of a tile that rise, by the graph of `label_graph`
+//! - `rim_joins`: joins over a tile's rim
+//! - `found_joins`: the joins that the floods found, and those over rims
+//! - `crests`: the crests of labels, by Kruskal's algorithm
+//! - `raised_tiles`: the cells of a tile that rise to the crests of their labels
 //! - `raised_runs`: runs of cells that rise to one height, and the list of cells with them
+//! - `held`: the certificate of the cells that rose
+//! - `gathering`: the joins of all neighbouring cells
 //! - `placing`: joins by the places of their labels
 //! - `sources`: the heights of end cells by place
 //! - `spill_graph`: the spill graph by places of labels
 //! - `raising`: the filled heights of one tile, by the graph of `spill_graph`
 #![tactic(auto)]
 
-mod arcs;
 mod cell_labels;
+mod crests;
 mod filling;
+mod found_joins;
 mod gathering;
-mod inner_joins;
-mod join_table;
-mod label_graph;
-mod left_out;
+mod held;
 mod numbers;
 mod placing;
 mod raised_runs;
 mod raised_tiles;
 mod raising;
-mod rim_cells;
 mod rim_joins;
 mod sources;
 mod spill_graph;

@@ -12,8 +12,8 @@ use terrain::Cell;
 #[derive(Clone, Copy)]
 pub(crate) struct RaisedRun {
     /// The index of the first cell.
-    first: u32,
-    count: u32,
+    pub(crate) first: u32,
+    pub(crate) count: u32,
     cell: Cell,
 }
 

@@ -2,17 +2,14 @@
 //!
 //! [`SpillGraph::gather`] makes the graph from the floods of all tiles, which have the levels and
 //! labels of cells. [`SpillGraph::levels`] finds each label's least crest to an end cell.
-ghost use Rattle.std.specs.Prelude.{◌≡◌, false, ◌<◌, ◌≤◌, ◌*◌, ℕ, length, map, IfOk, slice_index_or};
+ghost use Rattle.std.specs.Prelude.{◌≡◌, ◌<◌, ◌≤◌, ◌*◌, ℕ, length, map, IfOk, slice_index_or};
 ghost use Rattle.terrain.specs.Raster.{Terrain};
-ghost use Rattle.tiles.specs.Cutting.{Cutting};
 ghost use Rattle.fill.specs.Parts.{BeginAt};
 ghost use Rattle.fill.specs.SpillGraph.{AreFloods, IsGraphOf, AreLevelsOf};
-ghost use Rattle.fill.specs.Gathering.{AreInner, AreRising, turned, arc_of};
+ghost use Rattle.fill.specs.Gathering.{AreRising, turned, arc_of};
 
 use crate::cell_labels::NumberedFloods;
 use crate::gathering::graph_joins;
-use crate::inner_joins::inner_joins;
-use crate::left_out::LeftOut;
 use crate::numbers::first_numbers;
 use crate::placing::{label_nodes, lowest_joins, placed_joins};
 use crate::sources::label_sources;
@@ -25,8 +22,7 @@ use terrain::{Height, NoMemory};
 use tiles::Tiling;
 
 /// Two joined labels, and the height in units at which water passes between them.
-/// In one tile a label is given by its index in the tile's table, which lists the tile's labels.
-/// Over all tiles it is given by its number, which counts the entries of all tables, or by node.
+/// A label is given by its number, which counts the entries of all tiles' tables, or by its node.
 /// Its node is the index of its place in row order of the grid.
 #[derive(Clone, Copy, Debug, PartialEq, Eq, PartialOrd, Ord)]
 pub struct Join {
@@ -163,18 +159,6 @@ impl Net for SpillGraph {
     }
 }
 
-/// Returns the joins inside each tile, with none left out.
-fn inner_joins_of(alloc: Global, floods: &[TileFlood]) -> Result<Vec<Vec<Join>>, AllocError>
-    requires { (t : Terrain) × (c : Cutting) × AreFloods t c floods.now }
-    ensures { IfOk result (λ v. AreInner floods.now false v.items) }
-{
-    let mut inner = Vec::with_capacity(alloc, floods.len())?;
-    for flood in floods {
-        inner.push(inner_joins(alloc, flood, &LeftOut::nothing())?)?;
-    }
-    Ok(inner)
-}
-
 impl SpillGraph {
     /// Makes the spill graph of all tiles. `floods` is in tile order.
     ///
@@ -203,8 +187,7 @@ impl SpillGraph {
             floods,
             firsts: &firsts,
         };
-        let inner = inner_joins_of(alloc, floods)?;
-        let gathered = graph_joins(alloc, &tiles, &LeftOut::nothing(), &inner)?;
+        let gathered = graph_joins(alloc, &tiles)?;
         let nodes = label_nodes(alloc, tiling, floods)?;
         let placed = placed_joins(alloc, &gathered, &nodes)?;
         let joins = lowest_joins(alloc, placed)?;

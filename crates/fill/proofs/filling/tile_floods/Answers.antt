@@ -1,5 +1,5 @@
 use Rattle.std.proofs.Common.{◌≡◌, length, arith}
-use Rattle.fill.proofs.InnerLists.{floods_given, inner_given}
+use Rattle.fill.proofs.FloodLists.{floods_given, meetings_given}
 use Rattle.fill.proofs.filling.tile_floods.Goals as goal
 
 pub returns-clause-floods : goal.returns-clause-floods
@@ -11,10 +11,10 @@ returns-clause-floods g c =
     c.in_ok-tiles.ensures.given _ c.in_ok-floods.ensures.floods
     c.tiles-jobs.ensures.lawful c.requires c.tiles-jobs.ensures.value
 
-pub returns-clause-inner : goal.returns-clause-inner
-returns-clause-inner g c =
+pub returns-clause-meetings : goal.returns-clause-meetings
+returns-clause-meetings g c =
     let tiles = c.in_ok-tiles.tiles.items in
     let size : length tiles ≡ c.tiles-jobs.result =
     omega (arith, c.in_ok-tiles.tiles.ok.0, c.in_ok-tiles.ensures.len) in
-    inner_given c.args.grid.now.terrain c.args.tiling.now tiles c.tiles-jobs.result size
-    c.in_ok-tiles.ensures.given _ c.in_ok-floods.ensures.floods _ c.in_ok-floods.ensures.joins
+    meetings_given c.args.grid.now.terrain c.args.tiling.now tiles c.tiles-jobs.result size
+    c.in_ok-tiles.ensures.given _ c.in_ok-floods.ensures.floods _ c.in_ok-floods.ensures.meetings

@@ -12,7 +12,7 @@ loop-index-preserved c raised all =
     let first = c.args.first in
     let old = runs_of c.args.runs.now in
     let now = runs_of c.loop-index.runs in
-    let is = c.at-cell.ensures.value ∙ sym (all k c.loop-index-test.true c.at-cell.ensures.low) in
+    let is = c.at-cell.ensures ∙ sym (all k c.loop-index-test.true) in
     elim c.if-not-is_level_with.branch [
       | then-not-is_level_with+in_ok-add w ↦
           rw w.runs-is (cell_rises raised read first k c.at-cell.result old now _

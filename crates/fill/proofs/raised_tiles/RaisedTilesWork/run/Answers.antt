@@ -1,4 +1,4 @@
-use Rattle.std.proofs.Common.{◌≡◌, ◌*◌, ◌<◌, Some, length, ap, refl, ◌∙◌, arith}
+use Rattle.std.proofs.Common.{◌≡◌, ◌+◌, ◌*◌, ◌<◌, Some, None, get_or, length, ap, refl, ◌∙◌, arith}
 use Rattle.std.specs.Prelude.{slice_get}
 use Rattle.std.proofs.lemmas.List.{get_or_default}
 use Rattle.std.proofs.lemmas.List.Folds.{length-flat_map-take}
@@ -7,11 +7,12 @@ use Rattle.tiles.specs.declared.bounds.Bounds.{Bounds}
 use Rattle.cell_floods.specs.TileFlood.{Flood}
 use Rattle.fill.specs.Numbers.{first_of}
 use Rattle.fill.specs.RaisedTiles.{raised_cell}
+use Rattle.fill.proofs.Numbered.{place_at}
 use Rattle.fill.proofs.Raised.{raised_places}
 use Rattle.fill.proofs.raised_tiles.RaisedTilesWork.run.Goals as goal
 
-pub new-requires : goal.new-requires
-new-requires c =
+pub new-raised-requires : goal.new-raised-requires
+new-raised-requires c =
     let m = c.args.self.now in
     let floods = m.floods.items in
     let tile = c.args.job in
@@ -23,7 +24,7 @@ new-requires c =
     ∙ m.numbers.each tile below in
     let all = length-flat_map-take (λ (g : Flood). g.table.places) floods tile f below in
     omega
-    (arith, first, all, ap (λ (g : Flood). length g.table.places) c.index.ensures, m.levels_size)
+    (arith, first, all, ap (λ (g : Flood). length g.table.places) c.index.ensures, m.crests_size)
 
 pub runs-requires-clause-cells : goal.runs-requires-clause-cells
 runs-requires-clause-cells c =
@@ -34,7 +35,7 @@ runs-requires-clause-cells c =
     let below : tile < length floods = omega (arith, c.requires, m.fit.count) in
     let there : slice_get floods tile ≡ Some f =
     slice_get_read floods (length floods) tile f refl below c.index.ensures in
-    rw c.view-view.ensures (c.in_ok-raised.ensures.size ∙ m.fit.sizes tile f there
+    rw c.view-view.ensures (c.new-raised.ensures.size ∙ m.fit.sizes tile f there
     ∙ ap (λ (x : Bounds). x.rows * x.cols) (m.fit.bounds tile f there))
 
 pub returns-clause-given : goal.returns-clause-given
@@ -50,7 +51,9 @@ returns-clause-given c =
     c.index-first.ensures
     ∙ get_or_default m.firsts.items tile _ 0 (omega (arith, below, m.numbers.size))
     ∙ m.numbers.each tile below in
-    let by = rw first at c.in_ok-raised.ensures in
+    let by = rw (first, c.deref.ensures.value) at c.new-raised.ensures in
+    let lawful = m.numbers.lawful tile f there in
     (rw c.view-view.ensures at c.in_ok-runs.ensures)
-    (raised_cell m.tiling floods m.levels)
-    (raised_places m.tiling floods tile f m.levels _ m.lawful m.fit there c.requires by)
+    (raised_cell m.tiling floods m.crests.items)
+    (raised_places m.tiling floods tile f m.crests.items _ m.lawful m.fit there c.requires
+    (λ some. m.bare (first_of floods tile + 0) (place_at floods tile 0 f there some ∙ lawful.table.first)) by)

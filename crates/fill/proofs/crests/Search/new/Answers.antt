@@ -1,0 +1,10 @@
+use Rattle.std.proofs.Common.{◌≡◌, ◌<◌, ap, sym, subst, ◌∙◌, inl, inr, arith}
+use Rattle.std.proofs.lemmas.Bool.{cases_eq}
+use Rattle.std.proofs.lemmas.List.{get_or_append_left, get_or_push, length_push}
+use Rattle.fill.specs.Crests.{Leaves}
+use Rattle.fill.proofs.crests.Search.new.Goals as goal
+
+pub returns-clause-rings : goal.returns-clause-rings
+returns-clause-rings c t places now a level below above leaves =
+    subst (λ n. Leaves t places n level)
+    (sym (c.loop-label.invariant.each a (omega (arith, below, c.loop-label.invariant.size)))) leaves

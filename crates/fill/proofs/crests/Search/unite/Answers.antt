@@ -1,0 +1,10 @@
+use Rattle.std.proofs.Common.{arith}
+use Rattle.fill.proofs.Rings.{united_rings}
+use Rattle.fill.proofs.crests.Search.unite.Goals as goal
+
+pub returns-then-unite-clause-rings : goal.returns-then-unite-clause-rings
+returns-then-unite-clause-rings c t places now low pass rings =
+    rw c.swap.ensures.items
+    (united_rings t places now c.args.self.now.next.items c.args.join pass low
+    (omega (arith, c.if-from-len.false, c.len.ensures)) (omega (arith, c.if-to-len.false, c.len-else-from-len.ensures))
+    rings)
