@@ -7,14 +7,14 @@ use std::alloc::{AllocError, Global};
 
 /// Disjoint sets of a net's nodes.
 #[derive(Drop)]
-pub(crate) struct LabelSets {
+pub struct LabelSets {
     /// For each node a lower node of its set, or the node itself if none is lower.
     parents: Vec<u32>,
 }
 
 impl LabelSets {
     /// Makes a set for each node below `count`.
-    pub(crate) fn of_nodes(alloc: Global, count: u32) -> Result<Self, AllocError> {
+    pub fn of_nodes(alloc: Global, count: u32) -> Result<Self, AllocError> {
         let mut parents = Vec::with_capacity(alloc, count as usize)?;
         for node in 0..count {
             parents.push(node)?;
@@ -54,7 +54,7 @@ impl LabelSets {
     }
 
     /// Unites the sets of two nodes. Returns whether they were two sets.
-    pub(crate) fn unite(&mut self, one: u32, other: u32) -> bool {
+    pub fn unite(&mut self, one: u32, other: u32) -> bool {
         let one = self.first(one);
         let other = self.first(other);
         self.set_parent(one.max(other), one.min(other));

@@ -32,6 +32,7 @@ mod tile;
 mod whole;
 
 pub use cell_net::CellNet;
+pub use label_sets::LabelSets;
 pub use labels::Labels;
 pub use levels::Levels;
 pub use tile::{FloodWithMeetings, Meeting, TileFlood, flood_with_meetings, tile_flood};

@@ -1,6 +1,7 @@
 //! Finds the filled heights of a grid by one flood, without tiles: [`filled_heights`].
 //!
-//! Only tests call it. They compare it with expected maps and with repeated lowering.
+//! `filled` calls it where its own search has no certificate, which is not known to happen. Tests
+//! compare it with expected maps and with repeated lowering.
 ghost use Rattle.std.specs.Prelude.{IfOk};
 ghost use Rattle.drainage.specs.Filled.{IsFilled};
 
