@@ -53,11 +53,20 @@ impl LabelSets {
         node
     }
 
+    /// Returns `true` only if two nodes are in one set; mostly so, if they are.
+    #[inline(always)]
+    pub fn have_met(&self, one: u32, other: u32) -> bool {
+        self.parent(one) == self.parent(other)
+    }
+
     /// Unites the sets of two nodes. Returns whether they were two sets.
+    /// Both nodes then lead straight to the lowest, so [`have_met`](Self::have_met) sees it.
     pub fn unite(&mut self, one: u32, other: u32) -> bool {
-        let one = self.first(one);
-        let other = self.first(other);
-        self.set_parent(one.max(other), one.min(other));
-        one != other
+        let (first, second) = (self.first(one), self.first(other));
+        let lowest = first.min(second);
+        for node in [first, second, one, other] {
+            self.set_parent(node, lowest);
+        }
+        first != second
     }
 }

@@ -196,10 +196,10 @@ pub(crate) fn labels_of(
     let count = (bounds.rows as usize + 2) * (bounds.cols as usize + 2);
     let mut met = vec![in alloc; NO_LABEL; count]?;
     let mut places = empty_table(alloc, bounds)?;
-    let mut indexes = Vec::with_capacity(alloc, nodes.len())?;
-    for node in &nodes {
-        let index = index_of_label(&mut places, &mut met, bounds, label_of(*node))?;
-        indexes.push(index)?;
+    // Each index replaces a cell's node, which spares a list of 4 bytes a cell.
+    let mut indexes = nodes;
+    for index in indexes.iter_mut() {
+        *index = index_of_label(&mut places, &mut met, bounds, label_of(*index))?;
     }
     let indexes = stored_indexes(alloc, places.len(), indexes)?;
     Ok(IndexedLabels {

@@ -158,6 +158,9 @@ impl<'a> Spreading<'a> {
             return Ok(());
         }
         if own != NO_LABEL {
+            if self.sets.have_met(label, own) {
+                return Ok(());
+            }
             return self.meet(to, label, level);
         }
         let cell = self.net.cells()[to as usize];

@@ -1,14 +1,19 @@
-use Rattle.std.proofs.Common.{◌≡◌, ◌+◌, ◌*◌, ◌≤◌, length, map, take}
+use Rattle.std.proofs.Common.{◌≡◌, ◌+◌, ◌*◌, ◌≤◌, ℕ, get_or, length, map, take}
 use Rattle.floods.specs.Notes.{numbered_labels}
 use Rattle.cell_floods.specs.Labels.{IsTable, AreMet, label_of_node, labels_by}
 use Rattle.cell_floods.proofs.labels.labels_of.Given as goal
 
-abbrev pub invariant-loop-node : goal.invariant-loop-node
-invariant-loop-node l = record {
-  few : length l.places.items ≤ l.node-index + 1;
-  table : IsTable l.places.items l.indexes.items;
-  met : AreMet l.bounds l.met.items l.places.items;
-  size : length l.met.items ≡ (l.bounds.rows + 2) * (l.bounds.cols + 2);
-  labels : labels_by l.places.items l.indexes.items
-      ≡ map (label_of_node l.bounds) (take l.node-index (numbered_labels l.fn.nodes.items));
-}
+abbrev pub invariant-loop-index : goal.invariant-loop-index
+invariant-loop-index l =
+    let i = l.index-index in
+    let nodes = l.fn.nodes.items in
+    record {
+      few : length l.places.items ≤ i + 1;
+      table : IsTable l.places.items (take i l.index-items);
+      met : AreMet l.bounds l.met.items l.places.items;
+      size : length l.met.items ≡ (l.bounds.rows + 2) * (l.bounds.cols + 2);
+      whole : length l.index-items ≡ length nodes;
+      rest : (k : ℕ) → i ≤ k → get_or l.index-items k 0 ≡ get_or nodes k 0;
+      labels : labels_by l.places.items (take i l.index-items)
+          ≡ map (label_of_node l.bounds) (take i (numbered_labels nodes));
+    }
