@@ -1,5 +1,5 @@
 -- If a path along links ends, it ends after fewer moves than there are nodes, and each move leaves
--- fewer (`moves_left`). A list of known ends stays right as ends are written along a path.
+-- fewer (`moves_left`). A list of known numbers stays right as numbers are written along a path.
 use Rattle.std.proofs.Common.{◌≡◌, ℕ, zero, suc, ◌+◌, ◌-◌, ◌<◌, ◌≤◌, ◌⊎◌, inl, inr, cond, eqb, List, length, sym, ap, ◌∙◌, arith, add-zero, ◌≢◌, get_or, set, refl}
 use Rattle.std.proofs.lemmas.Bool.{cases_eq, cases_lt, cond-true, cond-false, eq-eqb, ne_eqb}
 use Rattle.std.proofs.lemmas.List.{get_or-set_same, get_or-set_other}
@@ -7,7 +7,8 @@ use Rattle.std.proofs.Math.ListN.{length-set}
 use Rattle.drainage.proofs.Pigeonhole.{pigeonhole}
 use Rattle.tile_jobs.specs.Sums.{sum_below}
 use Rattle.flow.specs.Streams.{AreStreams, next_node, node_after, end_of}
-use Rattle.flow.specs.Finding.{AreKnownEnds, IsKnown, unknown_entry}
+use Rattle.terrain.specs.StoredCells.{uncounted}
+use Rattle.flow.specs.Finding.{AreKnown, IsKnown}
 use Rattle.tile_jobs.proofs.Sums.{bit_le, sum_below-same}
 
 -- A sequence whose next value depends on the last alone stays where it stops.
@@ -161,21 +162,21 @@ pub ends_here : (links : List ℕ) (from : ℕ) {node next : ℕ} → next ≡ n
     SharesEnd links from node → next ≡ end_of links from
 ends_here links from is same on = same ∙ sym (node_after-stays links (sym is ∙ same) (length links)) ∙ on.1
 
--- The moves left, plus 1 while the node's end is unknown. The sum falls as ends are noted along a
--- path.
+-- The moves left, plus 1 while the node's number is unknown. The sum falls as numbers are written
+-- along a path.
 abbrev pub writes_left : List ℕ → List ℕ → ℕ → ℕ
 writes_left links ends i =
-    moves_left links i + cond {A = ℕ} (eqb (get_or ends i 0) unknown_entry) 1 0
+    moves_left links i + cond {A = ℕ} (eqb (get_or ends i 0) uncounted) 1 0
 
-pub writes_fall : {links ends : List ℕ} (i last : ℕ) → AreStreams links → AreKnownEnds links ends →
-    i < length links → get_or ends i 0 ≡ unknown_entry → last ≢ unknown_entry →
+pub writes_fall : {links ends : List ℕ} {number : ℕ → ℕ} (i last : ℕ) → AreStreams links → AreKnown links number ends →
+    i < length links → get_or ends i 0 ≡ uncounted → last ≢ uncounted →
     writes_left links (set ends i last) (next_node links i) < writes_left links ends i
 writes_fall {links} {ends} i last s f h unknown known =
-    let was : cond {A = ℕ} (eqb (get_or ends i 0) unknown_entry) 1 0 ≡ 1 =
+    let was : cond {A = ℕ} (eqb (get_or ends i 0) uncounted) 1 0 ≡ 1 =
     cond-true {A = ℕ} _ 1 0 (eq-eqb _ _ unknown) in
     elim (cases_eq (next_node links i) i) [
       | inl e ↦ (let now :
-          cond {A = ℕ} (eqb (get_or (set ends i last) (next_node links i) 0) unknown_entry) 1 0
+          cond {A = ℕ} (eqb (get_or (set ends i last) (next_node links i) 0) uncounted) 1 0
           ≡ 0 =
           cond-false {A = ℕ} _ 1 0 (ne_eqb _ _ (λ u. known (sym (ap (λ n. get_or (set ends i last)
           n 0) e ∙ get_or-set_same ends i last 0 (omega (arith, f.size, h))) ∙ u))) in
@@ -184,28 +185,28 @@ writes_fall {links} {ends} i last s f h unknown known =
         arith,
         was,
         moves_fall s i h on,
-        bit_le (eqb (get_or (set ends i last) (next_node links i) 0) unknown_entry),
+        bit_le (eqb (get_or (set ends i last) (next_node links i) 0) uncounted),
       )
     ]
 
-pub known_more : (links ends : List ℕ) (node end : ℕ) → AreKnownEnds links ends →
-    node < length links →
-    end ≡ end_of links node → AreKnownEnds links (set ends node end)
-known_more links ends node end f h e = record {
+pub known_more : {links ends : List ℕ} {number : ℕ → ℕ} (node end : ℕ) → AreKnown links number ends →
+    node < length links → end ≡ number (end_of links node) → AreKnown links number (set ends node end)
+known_more {links} {ends} {number} node end f h e = record {
   size = length-set ends node end ∙ f.size;
   right = λ i l known. elim (cases_eq i node) [
     | inl s ↦ ap (λ n. get_or (set ends node end) n 0) s
-        ∙ get_or-set_same ends node end 0 (omega (arith, f.size)) ∙ e ∙ sym (ap (end_of links) s)
+        ∙ get_or-set_same ends node end 0 (omega (arith, f.size)) ∙ e
+        ∙ sym (ap (λ n. number (end_of links n)) s)
     | inr ne ↦ (let same = get_or-set_other ends node i end 0 ne in same
         ∙ f.right i l (λ u. known (same ∙ u)))
   ];
 }
 
-pub known_same : (ends : List ℕ) (node end : ℕ) → node < length ends → end ≢ unknown_entry →
+pub known_same : (ends : List ℕ) (node end : ℕ) → node < length ends → end ≢ uncounted →
     IsKnown (set ends node end) node
 known_same ends node end h ne e = ne (sym (get_or-set_same ends node end 0 h) ∙ e)
 
-pub known_still : (ends : List ℕ) (node end : ℕ) → node < length ends → end ≢ unknown_entry →
+pub known_still : (ends : List ℕ) (node end : ℕ) → node < length ends → end ≢ uncounted →
     (i : ℕ) → IsKnown ends i → IsKnown (set ends node end) i
 known_still ends node end h ne i known = elim (cases_eq i node) [
   | inl s ↦

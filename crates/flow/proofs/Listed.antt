@@ -1,24 +1,17 @@
--- Entry i of a tile's counts or exits is the value at cell i, `None` at NODATA. Entry i of the
--- exit numbers is the number of the outlet of cell i if cell i is an exit, else 0. The codes of the
+-- Entry i of a tile's counts or exits is the value at cell i, `None` at NODATA. The codes of the
 -- tile's rows, appended row by row, are the tile's codes.
-use Rattle.std.proofs.Common.{◌≡◌, ℕ, ◌<◌, List, length, get_or, map, Option, None, Some, IfSome, sym, ap, subst, refl, ◌∙◌, arith, ◌+◌, ◌-◌, ◌*◌, inl, inr, ◌++◌}
+use Rattle.std.proofs.Common.{◌≡◌, ℕ, ◌<◌, List, length, get_or, map, Option, None, sym, ap, ◌∙◌, arith, ◌+◌, ◌-◌, ◌*◌, inl, inr, ◌++◌}
 use Rattle.std.specs.List.{range_with_len}
-use Rattle.std.specs.Option.{option_map}
-use Rattle.std.proofs.lemmas.Bool.{cond-true, cond-false, eq-eqb, ne_eqb, cases_lt}
-use Rattle.std.proofs.lemmas.Option.{none-some, same_Some}
+use Rattle.std.proofs.lemmas.Bool.{cases_lt}
 use Rattle.std.proofs.lemmas.List.{get_or_default, length-append, get_or_append_left, get_or-append_right}
-use Rattle.std.proofs.lemmas.List.FromFn.{get_or-map-range_with_len, length-map-range_with_len}
-use Rattle.terrain.specs.declared.place.Place.{Place}
+use Rattle.std.proofs.lemmas.List.FromFn.{get_or-map-range_with_len}
 use Rattle.tiles.specs.declared.bounds.Bounds.{Bounds}
-use Rattle.tiles.proofs.TileOrder.{index_in-place_in, place_in-index_in}
-use Rattle.flow.specs.TileFlow.{Flow, directed_by}
-use Rattle.flow.specs.TileLinks.{where_data, exits_by}
-use Rattle.flow.specs.RimGraph.{Outlets, listed_outlet}
-use Rattle.flow.specs.Numbering.{EndNumbers, IsNumberedPlace, number_at, exit_number_by}
+use Rattle.flow.specs.TileFlow.{directed_by}
+use Rattle.flow.specs.TileLinks.{where_data}
 use Rattle.std.proofs.Math.Nat.{suc-mul}
 use Rattle.std.proofs.lemmas.Nat.{div-mul-add, mod-mul-add}
 use Rattle.terrain.proofs.Places.{make_place, same_place, entry-inside}
-use Rattle.tiles.specs.Cutting.{View, AreBounds, bounds_of, row_shown, place_in, index_in}
+use Rattle.tiles.specs.Cutting.{View, AreBounds, bounds_of, row_shown, place_in}
 use Rattle.drainage.specs.Following.{code_at}
 use Rattle.tiles.proofs.TileRows.{row_has}
 
@@ -32,64 +25,6 @@ made_at cells value n i code x inside h read same =
     ∙ ap (where_data (get_or cells i None)) same
     ∙ sym (get_or-map-range_with_len
     (λ i. where_data (get_or cells i None) (value i)) 0 n i i None h (omega arith))
-
-pub exits_size : (b : Bounds) (cells : List (Option ℕ)) (ends : List ℕ) →
-    length (exits_by b cells ends) ≡ length cells
-exits_size b cells ends = length-map-range_with_len (λ i.
-    where_data (get_or cells i None) (place_in b (get_or ends i 0))) 0 (length cells)
-
-pub exit_at : (b : Bounds) (cells : List (Option ℕ)) (ends : List ℕ) (i : ℕ) → i < length cells →
-    get_or (exits_by b cells ends) i None
-    ≡ where_data (get_or cells i None) (place_in b (get_or ends i 0))
-exit_at b cells ends i h = get_or-map-range_with_len (λ i. where_data (get_or cells i None)
-    (place_in b (get_or ends i 0))) 0 (length cells) i i None h (omega arith)
-
-index_of_placed : (b : Bounds) (code : Option ℕ) (e : ℕ) →
-    where_data code e ≡ option_map (index_in b) (where_data code (place_in b e))
-index_of_placed b None e = refl
-index_of_placed b (Some code) e = ap Some (sym (index_in-place_in b e))
-
-pub exit_index_is : (b : Bounds) (cells : List (Option ℕ)) (ends : List ℕ) (i : ℕ) →
-    i < length cells →
-    where_data (get_or cells i None) (get_or ends i 0)
-    ≡ option_map (index_in b) (get_or (exits_by b cells ends) i None)
-exit_index_is b cells ends i h = index_of_placed b (get_or cells i None) (get_or ends i 0)
-    ∙ ap (option_map (index_in b)) (sym (exit_at b cells ends i h))
-
-module _ (o : Outlets) (flows : List Flow) (n : EndNumbers) (b : Bounds) where
-  -- If x is a numbered place, so is q, the place at the index of x. A numbered place is in the
-  -- bounds and the grid, and the outlet listed for it, if any, has a number.
-  pub exit_placed : (exit : ℕ) (x : Option Place) (q : Place) → q ≡ place_in b exit → Some exit
-      ≡ option_map (index_in b) x → IfSome x (IsNumberedPlace o flows n b) →
-      IsNumberedPlace o flows n b q
-  exit_placed exit None q at some is = absurd (none-some exit (sym some))
-  exit_placed exit (Some e) q at some is =
-      subst (λ p. IsNumberedPlace o flows n b p) (sym (place_in-index_in b e is.inside)
-      ∙ ap (place_in b) (sym (same_Some exit (index_in b e) some)) ∙ sym at) is
-
-  pub exit_number_own : {i exit : ℕ} (x : Option Place) → Some exit ≡ option_map (index_in b) x →
-      exit ≡ i → IfSome x (IsNumberedPlace o flows n b) →
-      number_at o.cutting.cols n (listed_outlet o flows (place_in b exit))
-      ≡ exit_number_by o flows n b i x
-  exit_number_own {exit = exit} None some own is = absurd (none-some exit (sym some))
-  exit_number_own {i} {exit} (Some e) some own is =
-      let at : exit ≡ index_in b e = same_Some exit (index_in b e) some in
-      ap (λ p. number_at o.cutting.cols n (listed_outlet o flows p)) (ap (place_in b) at
-      ∙ place_in-index_in b e is.inside)
-      ∙ sym (cond-true _ (number_at o.cutting.cols n (listed_outlet o flows e)) 0
-      (eq-eqb (index_in b e) i (sym at ∙ own)))
-
-  pub exit_number_none : (i : ℕ) (x : Option Place) → None ≡ option_map (index_in b) x →
-      0 ≡ exit_number_by o flows n b i x
-  exit_number_none i None none = refl
-  exit_number_none i (Some e) none = absurd (none-some (index_in b e) none)
-
-  pub exit_number_other : (i exit : ℕ) (x : Option Place) → Some exit ≡ option_map (index_in b) x →
-      (exit ≡ i → ⊥) → 0 ≡ exit_number_by o flows n b i x
-  exit_number_other i exit None some other = refl
-  exit_number_other i exit (Some e) some other =
-      sym (cond-false _ (number_at o.cutting.cols n (listed_outlet o flows e)) 0
-      (ne_eqb (index_in b e) i (λ own. other (same_Some exit (index_in b e) some ∙ own))))
 
 pub place_in_row : (b : Bounds) (r k : ℕ) → k < b.cols →
     place_in b (r * b.cols + k) ≡ make_place (b.top + r) (b.left + k)

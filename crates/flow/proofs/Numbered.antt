@@ -1,27 +1,28 @@
 -- The data cells of a tile get the numbers of the ends of their flow paths.
-use Rattle.std.proofs.Common.{◌≡◌, ℕ, ◌*◌, ◌<◌, ◌≤◌, inl, inr, List, length, get_or, take, Option, None, Some, IfSome, slice_get, sym, ap, subst, refl, ◌∙◌, arith}
-use Rattle.std.proofs.lemmas.Bool.{cases_lt, cond-true, eq-eqb}
-use Rattle.std.proofs.lemmas.List.{get_or_past, length-take}
+use Rattle.std.proofs.Common.{◌≡◌, ℕ, ◌*◌, ◌<◌, ◌≤◌, inl, inr, List, length, get_or, take, Option, None, Some, is_some, slice_get, sym, ap, subst, ◌∙◌, arith}
+use Rattle.std.proofs.lemmas.Bool.{cases_eq, cond-true, false≢true}
+use Rattle.std.proofs.lemmas.List.{length-take}
 use Rattle.std.proofs.lemmas.List.Sums.{count_by-le-length}
 use Rattle.std.proofs.lemmas.List.FromFn.{get_or-map-range_with_len}
-use Rattle.std.proofs.lemmas.Option.{slice_get_within, MatchOption-at_none, MatchOption-at_some}
+use Rattle.std.proofs.lemmas.Option.{slice_get_within, MatchOption-at_none, MatchOption-at_some, same_Some}
 use Rattle.terrain.specs.Neighbours.{index_of}
-use Rattle.terrain.specs.StoredCells.{stored_count, uncounted}
-use Rattle.terrain.proofs.Stored.{stored_count_some}
+use Rattle.terrain.specs.StoredCells.{uncounted}
 use Rattle.terrain.specs.declared.place.Place.{Place}
 use Rattle.terrain.proofs.Places.{index_below}
 use Rattle.tiles.specs.declared.bounds.Bounds.{Bounds}
-use Rattle.tiles.specs.Cutting.{Cutting, IsInBounds, IsInTile, IsWithin, tile_count, cell_count, tile_entry, place_in, index_in}
+use Rattle.tiles.specs.Cutting.{Cutting, IsInBounds, IsInTile, IsWithin, tile_of_place, tile_count, cell_count, tile_entry, place_in, index_in}
 use Rattle.tiles.proofs.Cut.{in_bounds, in_bounds_from}
-use Rattle.tiles.proofs.TileOrder.{place_in_tile, index_in-place_in, index_in_below, tile_entry-in}
-use Rattle.drainage.specs.Following.{Directed, code_at, last_of}
+use Rattle.tiles.proofs.TileOrder.{place_in_tile, place_in-index_in, index_in_below, tile_entry-in}
+use Rattle.drainage.specs.Following.{Directed, code_at, last_of, next}
 use Rattle.flow.specs.Counts.{IsValueAt}
 use Rattle.flow.specs.TileFlow.{Flow, exit_in, IsTileExits, IsExitOf, IsExitCell}
+use Rattle.flow.specs.TileLinks.{where_data}
 use Rattle.flow.specs.Whole.{is_outlet_code, directed_on}
 use Rattle.flow.specs.RimGraph.{AreFlowsOf, AreOutlets, Outlets, listed_outlet}
-use Rattle.flow.specs.Numbering.{EndNumbers, end_number, outlet_numbers, IsNumbering, IsReady, AreReady, IsNumberedPlace, number_at, exit_number_by, exit_numbers_by, cell_number, cell_numbers_by}
+use Rattle.flow.specs.Numbering.{EndNumbers, end_number, outlet_numbers, IsNumbering, IsReady, AreReady, AreExitNumbers, IsNumberedPlace, number_at, tile_numbers, cell_numbers_by}
 use Rattle.flow.proofs.Coded.{IsCoded, cases_coded, coded_along, coded_inside}
-use Rattle.flow.proofs.RimFlows.{within_of, last_same, exit_in_tile, exit_of_exit}
+use Rattle.flow.proofs.Moved.{few_cells}
+use Rattle.flow.proofs.RimFlows.{within_of, last_same, exit_in_tile}
 
 -- With at most 2^24 codes, each outlet number is below `uncounted`, the stored count of NODATA.
 pub outlet_number_few : (codes : List (Option ℕ)) → length codes ≤ 4096 * 4096 → (i : ℕ) →
@@ -59,15 +60,44 @@ module _ {d : Directed} {t : Cutting} {flows : List Flow} {o : Outlets} {n : End
       coded_inside (coded_along s.are_flows.ends is (d.cols * d.rows)) in
       omega (arith, index_below d.cols d.rows (last_of d p) w.0 w.1, s.size)
 
-  numbered_last : {e : Place} → IsExitCell d t e → IsCoded d e →
-      IfSome (listed_outlet o flows e) (λ q. index_of o.cutting.cols q < n.cells)
-  numbered_last {e} cell is =
-      let below : index_of o.cutting.cols (last_of d e) < n.cells =
-      omega (arith, last_below e is, ap (λ cols. index_of cols (last_of d e)) same_cols) in
-      rw (s.are_outlets.outlets e cell) below
-
   number_few : (p : Place) → IsCoded d p → end_number d n p < uncounted
   number_few p is = s.few (index_of d.cols (last_of d p)) (last_below p is)
+
+  exit_place : (p : Place) → IsCoded d p → IsExitCell d t p → IsNumberedPlace o flows n p
+  exit_place p is cell =
+      let at = s.are_outlets.outlets p cell in
+      record {
+        within = subst (λ c. IsWithin c p) (sym s.same_cutting) (within_of s.are_flows is);
+        numbered =
+            let below : index_of o.cutting.cols (last_of d p) < n.cells =
+            omega (arith, last_below p is, ap (λ cols. index_of cols (last_of d p)) same_cols) in
+            rw at below;
+        few = omega (arith, ap (number_at o.cutting.cols n) at, number_of_last p, number_few p is);
+      }
+
+  other_place : (p : Place) → IsWithin t p → (IsExitCell d t p → ⊥) → IsNumberedPlace o flows n p
+  other_place p within other =
+      let at = s.are_outlets.no_outlets p within other in
+      record {
+        within = subst (λ c. IsWithin c p) (sym s.same_cutting) within;
+        numbered = rw at tt;
+        few = omega (arith, ap (number_at o.cutting.cols n) at);
+      }
+
+  numbered_place : (p : Place) → IsWithin t p → IsNumberedPlace o flows n p
+  numbered_place p within = elim (cases_coded d p) [
+    | inl none ↦ other_place p within (λ x. false≢true (sym (ap is_some none) ∙ x.0))
+    | inr is ↦ elim (cases_eq is.code 0) [
+      | inl out ↦ exit_place p is (ap is_some is.is, inl (is.is ∙ ap Some out))
+      | inr goes ↦ elim (cases_eq (tile_of_place t (next d p)) (tile_of_place t p)) [
+        | inr apart ↦ exit_place p is (ap is_some is.is, inr apart)
+        | inl same ↦ other_place p within (λ x. elim x.1 [
+          | inl out ↦ goes (same_Some is.code 0 (sym is.is ∙ out))
+          | inr apart ↦ apart same
+        ])
+      ]
+    ]
+  ]
 
   module _ (tile : ℕ) (f : Flow) (there : slice_get flows tile ≡ Some f) where
     right : IsTileExits d t tile f
@@ -111,75 +141,55 @@ module _ {d : Directed} {t : Cutting} {flows : List Flow} {o : Outlets} {n : End
         get_or f.exits (index_in f.bounds p) None ≡ None
     no_exit p i none = exit_entry p i ∙ MatchOption-at_none _ _ none (right.each p i)
 
-    -- Each exit in the list is in the tile, and its outlet has a number.
-    exit_is_numbered : (p : Place) → IsInTile t tile p →
-        IfSome (get_or f.exits (index_in f.bounds p) None) (IsNumberedPlace o flows n f.bounds)
-    exit_is_numbered p i = elim (cases_coded d p) [
-      | inl none ↦ rw (no_exit p i none) tt
-      | inr is ↦
-          let h = has_exit i is in
-          rw h.listed (record {
-            inside = in_flow h.exit h.inside;
-            within = subst (λ c. IsWithin c h.exit) (sym s.same_cutting) h.inside.0;
-            numbered = numbered_last (h.leads).4 h.coded;
-          })
-    ]
-
     tile_ready : IsReady t flows o n tile f
     tile_ready = record {
       size = cell_size;
-      exits = λ i. elim (cases_lt i (length f.exits)) [
-        | inr far ↦ rw (get_or_past f.exits i None far) tt
-        | inl below ↦
+      codes_size = right.lawful.codes_size ∙ sym right.lawful.exits_size;
+      numbered = record {
+        small = omega (arith, right.lawful.exits_size, few_cells f.bounds right.lawful.few_rows right.lawful.few_cols);
+        places = λ i below.
             let tile_below : tile < tile_count t =
             omega (arith, slice_get_within flows tile f there, s.are_flows.of_tiles.count) in
             let inside = subst (λ b. IsInTile t tile (place_in b i))
             (sym right.bounds) (place_in_tile t tile i s.are_flows.cutting tile_below
             (omega (arith, below, cell_size))) in
-            rw (index_in-place_in f.bounds i) at (exit_is_numbered (place_in f.bounds i) inside)
-      ];
+            numbered_place (place_in f.bounds i) inside.0;
+      };
     }
 
-    -- `exit_numbers_by` has at p's exit the number of the cell where the flow path of p ends.
+    -- `tile_numbers` has at p's exit the number of the cell where the flow path of p ends.
     exit_number_is : {p : Place} → IsCoded d p → (h : Has p) →
-        get_or (exit_numbers_by o flows n f) (index_in f.bounds h.exit) 0 ≡ end_number d n p
+        (tile_numbers o flows n f).number (index_in f.bounds h.exit) ≡ end_number d n p
     exit_number_is is h =
-        let own = has_exit h.inside h.coded in
-        let listed : get_or f.exits (index_in f.bounds h.exit) None ≡ Some h.exit = own.listed
-        ∙ ap Some (exit_of_exit s.are_flows h.exit own.exit (h.leads).4 own.leads) in
-        get_or-map-range_with_len (λ i. exit_number_by o flows n f.bounds i
-        (get_or f.exits i None)) 0 (length f.exits) (index_in f.bounds h.exit)
-        (index_in f.bounds h.exit) 0 (index_few h.exit h.inside) (omega arith)
-        ∙ ap (exit_number_by o flows n f.bounds (index_in f.bounds h.exit)) listed
-        ∙ cond-true _ (number_at o.cutting.cols n (listed_outlet o flows h.exit)) 0
-        (eq-eqb _ _ refl)
+        ap (λ q. number_at o.cutting.cols n (listed_outlet o flows q))
+        (place_in-index_in f.bounds h.exit (in_flow h.exit h.inside))
         ∙ ap (number_at o.cutting.cols n) (s.are_outlets.outlets h.exit (h.leads).4)
         ∙ number_of_last h.exit
         ∙ ap (λ q. n.number (index_of d.cols q))
         (last_same s.are_flows (h.leads).0 is (h.leads).3)
 
     -- The value at each place of the tile is the number of its path's end, `None` at NODATA.
-    pub entry_numbered : {values : List (Option ℕ)} →
-        values ≡ cell_numbers_by f.bounds (exit_numbers_by o flows n f) f.exits → (p : Place) →
-        IsInTile t tile p → IsValueAt d (end_number d n) p (tile_entry t tile values p)
-    entry_numbered {values} made p i =
-        let entry : tile_entry t tile values p ≡ cell_number f.bounds (exit_numbers_by o flows n f)
-        (get_or f.exits (index_in f.bounds p) None) =
+    pub entry_numbered : {values : List (Option ℕ)} {numbers : List ℕ} →
+        AreExitNumbers f (tile_numbers o flows n f).number numbers → values ≡ cell_numbers_by f.codes numbers →
+        (p : Place) → IsInTile t tile p → IsValueAt d (end_number d n) p (tile_entry t tile values p)
+    entry_numbered {values} {numbers} are made p i =
+        let below = index_few p i in
+        let entry : tile_entry t tile values p
+        ≡ where_data (code_at d p) (get_or numbers (index_in f.bounds p) 0) =
         tile_entry-in t tile values p i
         ∙ ap (λ b. get_or values (index_in b p) None) (sym right.bounds)
         ∙ ap (λ l. get_or l (index_in f.bounds p) None) made
-        ∙ get_or-map-range_with_len (λ i. cell_number f.bounds (exit_numbers_by o flows n f)
-        (get_or f.exits i None)) 0 (length f.exits) (index_in f.bounds p) (index_in f.bounds p) None
-        (index_few p i) (omega arith) in
+        ∙ get_or-map-range_with_len (λ i. where_data (get_or f.codes i None) (get_or numbers i 0)) 0 (length f.codes)
+        (index_in f.bounds p) (index_in f.bounds p) None
+        (omega (arith, below, right.lawful.codes_size, right.lawful.exits_size)) (omega arith)
+        ∙ ap (λ o. where_data o (get_or numbers (index_in f.bounds p) 0))
+        (sym (cond-true {A = Option ℕ} _ _ _ (in_bounds_from f.bounds p (in_flow p i))) ∙ right.same_codes p i) in
         elim (cases_coded d p) [
-          | inl none ↦ rw none (entry
-              ∙ ap (cell_number f.bounds (exit_numbers_by o flows n f)) (no_exit p i none))
+          | inl none ↦ rw none (entry ∙ ap (λ o. where_data o (get_or numbers (index_in f.bounds p) 0)) none)
           | inr is ↦
               let h = has_exit i is in
-              rw is.is (entry
-              ∙ ap (cell_number f.bounds (exit_numbers_by o flows n f)) h.listed
-              ∙ ap (stored_count uncounted) (exit_number_is is h)
-              ∙ stored_count_some uncounted (end_number d n p) (number_few p is))
+              rw is.is (entry ∙ ap (λ o. where_data o (get_or numbers (index_in f.bounds p) 0)) is.is
+              ∙ ap Some (are.each (index_in f.bounds p) h.exit below h.listed ∙ exit_number_is is h))
         ]
 
   pub ready : AreReady t flows o n

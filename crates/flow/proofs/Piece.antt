@@ -5,6 +5,8 @@ use Rattle.std.proofs.lemmas.Bool.{cond-true}
 use Rattle.std.proofs.Math.ListN.{length-map}
 use Rattle.std.proofs.lemmas.List.{get_or-map}
 use Rattle.std.proofs.lemmas.List.FromFn.{get_or-map-range_with_len, length-map-range_with_len}
+use Rattle.std.proofs.lemmas.Option.{none-some, same_Some}
+use Rattle.terrain.specs.StoredCells.{uncounted}
 use Rattle.terrain.specs.declared.place.Place.{Place}
 use Rattle.tiles.specs.declared.bounds.Bounds.{Bounds}
 use Rattle.tiles.specs.Cutting.{Cutting, IsCutting, View, IsView, AreBounds, IsInBounds, bounds_of, tile_count, place_in, index_in, entry_in}
@@ -12,7 +14,8 @@ use Rattle.tiles.proofs.Cut.{places_from_value, in_bounds, bounds_inside, in_bou
 use Rattle.tiles.proofs.TileOrder.{place_in_tile, index_in-place_in, index_in_below, place_in-index_in, entry_in-inside}
 use Rattle.drainage.specs.Following.{Directed, code_at}
 use Rattle.drainage.specs.Drained.{AllFlowEnds}
-use Rattle.flow.specs.Streams.{AreStreams, AreSums, AreEnds, end_of, total}
+use Rattle.flow.specs.Numbering.{AreExitNumbers}
+use Rattle.flow.specs.Streams.{AreStreams, AreSums, AreEnds, AreEndNumbers, end_of, total}
 use Rattle.flow.specs.TileFlow.{Flow, directed_by, through_in, through_of, IsExitOf, IsFlow, IsTileExits, IsTileCounts}
 use Rattle.flow.specs.TileLinks.{link_by, AreTileCodes, EndsInLargestGrid, links_by, weights_by, where_data, counts_by, ends_by, rim_ends_by, exits_by, flow_by, AreFlowLists}
 use Rattle.flow.proofs.Totals.{total_is}
@@ -20,6 +23,7 @@ use Rattle.flow.proofs.Reaching.{IsEnding, ending_of}
 use Rattle.flow.proofs.DrainedCells.{all_drained_inside, drained_inside_few, through_is as drained_inside_through}
 use Rattle.flow.proofs.Coded.{IsCoded, cases_coded}
 use Rattle.flow.proofs.InTile.{AreTileLinks, AreTileWeights, IsPiece, tile_streams, exit_is}
+use Rattle.flow.proofs.Ending.{end-inside}
 use Rattle.flow.proofs.Moved.{few_cells}
 use Rattle.flow.proofs.TileTotals.{own_totals}
 
@@ -54,6 +58,11 @@ ends_are links = record {
   each = λ i h. get_or-map-range_with_len (end_of links) 0 (length links) i i 0 h (omega arith);
 }
 
+placed : (b : Bounds) (code : Option ℕ) (n : ℕ) (e : Place) → where_data code (place_in b n) ≡ Some e →
+    n ≡ index_in b e
+placed b None n e is = absurd (none-some e is)
+placed b (Some code) n e is = sym (index_in-place_in b n) ∙ ap (index_in b) (same_Some (place_in b n) e is)
+
 -- In the lists of one flow each cell has a link, and `ends_by` lists the ends of paths.
 module _ {b : Bounds} {cells : List (Option ℕ)} {links rim_ends : List ℕ}
     (s : AreFlowLists b cells links rim_ends) where
@@ -64,12 +73,31 @@ module _ {b : Bounds} {cells : List (Option ℕ)} {links rim_ends : List ℕ}
   pub end_listed : (i : ℕ) → i < length cells → end_of links i ≡ get_or (ends_by links) i 0
   end_listed i h = sym ((ends_are links).each i (omega (arith, h, as_many_links)))
 
-  -- Ends of paths along the links of a flow's codes are ends of paths along its list of links.
-  pub ends_seen : {f : Flow} → flow_by b cells (ends_by links) ≡ f → {ends : List ℕ} →
-      AreEnds (links_by f.bounds f.codes) ends → AreEnds links ends
-  ends_seen seen {ends = ends} are =
-      subst (λ l. AreEnds l ends) (sym s.linked)
-      (subst (λ (z : Flow). AreEnds (links_by z.bounds z.codes) ends) (sym seen) are)
+  -- The numbers of the ends of paths are those of the exits.
+  pub exit_numbers_are : {f : Flow} → flow_by b cells (ends_by links) ≡ f → {number : ℕ → ℕ} →
+      ((i : ℕ) → i < length f.exits → number i < uncounted) → {numbers : List ℕ} →
+      AreEndNumbers links number numbers → AreExitNumbers f number numbers
+  exit_numbers_are seen {number} few {numbers} are =
+      subst (λ (f : Flow). ((i : ℕ) → i < length f.exits → number i < uncounted) → AreExitNumbers f number numbers)
+      seen (λ few.
+      let exit : ℕ → Option Place = λ i. where_data (get_or cells i None) (place_in b (get_or (ends_by links) i 0)) in
+      let size : length (exits_by b cells (ends_by links)) ≡ length cells =
+      length-map-range_with_len exit 0 (length cells) in
+      record {
+        size = are.size ∙ as_many_links ∙ sym size;
+        few = λ i below.
+            let here : i < length links = omega (arith, below, size, as_many_links) in
+            omega (
+              arith,
+              are.each i here,
+              few (end_of links i) (omega (arith, end-inside s.streams i here, size, as_many_links)),
+            );
+        each = λ i e below listed.
+            let inside : i < length cells = omega (arith, below, size) in
+            are.each i (omega (arith, inside, as_many_links)) ∙ ap number (end_listed i inside
+            ∙ placed b (get_or cells i None) _ e
+            (sym (get_or-map-range_with_len exit 0 (length cells) i i None inside (omega arith)) ∙ listed));
+      }) few
 
 -- The codes (`cells`), links and weights of the tile that a view shows. In the view's map of
 -- directions all flow paths end.

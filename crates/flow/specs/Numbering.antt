@@ -1,15 +1,15 @@
 -- Numbers of the cells where flow paths end, and the numbers that a tile's cells get from them.
 -- Private.
-use Rattle.std.specs.Prelude.{◌≡◌, ℕ, ◌+◌, ◌-◌, ◌*◌, ◌^◌, ◌<◌, ◌≤◌, ◌==◌, if◌then◌else◌, List, map, length, take, count_by, Option, None, Some, IfSome, slice_get, slice_index, slice_index_or}
+use Rattle.std.specs.Prelude.{◌≡◌, ℕ, ◌+◌, ◌-◌, ◌*◌, ◌^◌, ◌<◌, ◌≤◌, List, map, length, take, count_by, Option, None, Some, IfSome, slice_get, slice_index, slice_index_or}
 use Rattle.std.specs.List.{range_with_len}
 use Rattle.terrain.specs.Neighbours.{index_of}
-use Rattle.terrain.specs.StoredCells.{stored_count, uncounted}
+use Rattle.terrain.specs.StoredCells.{uncounted}
 use Rattle.terrain.specs.declared.place.Place.{Place}
-use Rattle.tiles.specs.declared.bounds.Bounds.{Bounds}
-use Rattle.tiles.specs.Cutting.{Cutting, IsInBounds, IsWithin, cell_count, tile_count, index_in}
+use Rattle.tiles.specs.Cutting.{Cutting, IsWithin, cell_count, tile_count, index_in, place_in}
 use Rattle.drainage.specs.Following.{Directed, last_of}
 use Rattle.flow.specs.Counts.{IsValueAt}
 use Rattle.flow.specs.TileFlow.{Flow}
+use Rattle.flow.specs.TileLinks.{where_data}
 use Rattle.flow.specs.Whole.{is_outlet_code}
 use Rattle.flow.specs.RimGraph.{AreFlowsOf, Outlets, AreOutlets, listed_outlet}
 
@@ -50,21 +50,33 @@ abbrev pub IsEndNumberAt : Cutting → List Flow → Outlets → EndNumbers → 
 IsEndNumberAt t flows outlets n p entry =
     (d : Directed) → IsNumbering d t flows outlets n → IsValueAt d (end_number d n) p entry
 
--- A place in the bounds and in the grid; the outlet listed for it, if any, has a number.
-pub record IsNumberedPlace (outlets : Outlets) (flows : List Flow) (n : EndNumbers) (b : Bounds)
-    (e : Place) : Type 0 where
-  pub inside : IsInBounds b e
-  pub within : IsWithin outlets.cutting e
-  pub numbered : IfSome (listed_outlet outlets flows e)
-      (λ q. index_of outlets.cutting.cols q < n.cells)
+-- The number of an outlet; 0 without one.
+abbrev pub number_at : ℕ → EndNumbers → Option Place → ℕ
+number_at cols n None = 0
+number_at cols n (Some outlet) = n.number (index_of cols outlet)
 
--- A tile's job requires that `exits` has an entry for each cell. Each exit is in the flow's bounds
--- and the grid, and the outlet listed for the exit, if any, has a number.
+-- A place in the grid; the outlet listed for it, if any, has a number, below `uncounted`.
+pub record IsNumberedPlace (outlets : Outlets) (flows : List Flow) (n : EndNumbers) (p : Place) :
+    Type 0 where
+  pub within : IsWithin outlets.cutting p
+  pub numbered : IfSome (listed_outlet outlets flows p)
+      (λ q. index_of outlets.cutting.cols q < n.cells)
+  pub few : number_at outlets.cutting.cols n (listed_outlet outlets flows p) < uncounted
+
+-- A flow has at most 2^24 cells, each a numbered place (`IsNumberedPlace`).
+pub record AreNumberedCells (outlets : Outlets) (flows : List Flow) (n : EndNumbers) (f : Flow) :
+    Type 0 where
+  pub small : length f.exits ≤ 2 ^ 24
+  pub places : (i : ℕ) → i < length f.exits →
+      IsNumberedPlace outlets flows n (place_in f.bounds i)
+
+-- A tile's job requires that the flow has an exit and a code for each cell, and that the cells are
+-- numbered places.
 pub record IsReady (t : Cutting) (flows : List Flow) (outlets : Outlets) (n : EndNumbers) (tile : ℕ)
     (f : Flow) : Type 0 where
   pub size : length f.exits ≡ cell_count t tile
-  pub exits : (i : ℕ) →
-      IfSome (slice_index_or f.exits i None) (IsNumberedPlace outlets flows n f.bounds)
+  pub codes_size : length f.codes ≡ length f.exits
+  pub numbered : AreNumberedCells outlets flows n f
 
 -- What all jobs require: one flow for each tile, each as the tile's job requires (`IsReady`).
 pub record AreReady (t : Cutting) (flows : List Flow) (outlets : Outlets)
@@ -74,29 +86,23 @@ pub record AreReady (t : Cutting) (flows : List Flow) (outlets : Outlets)
   pub each : (tile : ℕ) (f : Flow) → slice_get flows tile ≡ Some f →
       IsReady t flows outlets n tile f
 
--- The number of an outlet; 0 without one.
-abbrev pub number_at : ℕ → EndNumbers → Option Place → ℕ
-number_at cols n None = 0
-number_at cols n (Some outlet) = n.number (index_of cols outlet)
+-- The numbers of the outlets listed for a flow's cells, by their indexes in the tile; 0 elsewhere.
+abbrev pub tile_numbers : Outlets → List Flow → EndNumbers → Flow → EndNumbers
+tile_numbers outlets flows n f = record {
+  cells = length f.exits;
+  number = λ i.
+      number_at outlets.cutting.cols n (listed_outlet outlets flows (place_in f.bounds i));
+}
 
--- The exit number at index i: the number of the outlet of exit e if e has index i, else 0.
-abbrev pub exit_number_by : Outlets → List Flow → EndNumbers → Bounds → ℕ → Option Place → ℕ
-exit_number_by outlets flows n b i None = 0
-exit_number_by outlets flows n b i (Some e) =
-    if index_in b e == i then number_at outlets.cutting.cols n (listed_outlet outlets flows e)
-    else 0
+-- Each cell with an exit has the exit's number, and all numbers are below `uncounted`.
+pub record AreExitNumbers (f : Flow) (number : ℕ → ℕ) (numbers : List ℕ) : Type 0 where
+  pub size : length numbers ≡ length f.exits
+  pub few : (i : ℕ) → i < length f.exits → slice_index numbers i < uncounted
+  pub each : (i : ℕ) (e : Place) → i < length f.exits → slice_index_or f.exits i None ≡ Some e →
+      slice_index numbers i ≡ number (index_in f.bounds e)
 
-abbrev pub exit_numbers_by : Outlets → List Flow → EndNumbers → Flow → List ℕ
-exit_numbers_by outlets flows n f =
-    map (λ i. exit_number_by outlets flows n f.bounds i (slice_index_or f.exits i None))
-    (range_with_len 0 (length f.exits))
-
--- The number of a cell: the exit number at the index of its exit, read by `stored_count`; `None`
--- without an exit.
-abbrev pub cell_number : Bounds → List ℕ → Option Place → Option ℕ
-cell_number b by_exit None = None
-cell_number b by_exit (Some e) = stored_count uncounted (slice_index by_exit (index_in b e))
-
-abbrev pub cell_numbers_by : Bounds → List ℕ → List (Option Place) → List (Option ℕ)
-cell_numbers_by b by_exit exits =
-    map (λ i. cell_number b by_exit (slice_index_or exits i None)) (range_with_len 0 (length exits))
+-- The number of each data cell; `None` at NODATA.
+abbrev pub cell_numbers_by : List (Option ℕ) → List ℕ → List (Option ℕ)
+cell_numbers_by codes numbers =
+    map (λ i. where_data (slice_index_or codes i None) (slice_index numbers i))
+    (range_with_len 0 (length codes))

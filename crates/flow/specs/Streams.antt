@@ -48,7 +48,11 @@ pub record AreSums (links weights totals : List ℕ) : Type 0 where
   pub size : length totals ≡ length links
   pub each : (i : ℕ) → i < length links → slice_index totals i ≡ total links weights i
 
+-- The number of the end of each node's path.
+pub record AreEndNumbers (links : List ℕ) (number : ℕ → ℕ) (numbers : List ℕ) : Type 0 where
+  pub size : length numbers ≡ length links
+  pub each : (i : ℕ) → i < length links → slice_index numbers i ≡ number (end_of links i)
+
 -- The end of each node's path.
-pub record AreEnds (links ends : List ℕ) : Type 0 where
-  pub size : length ends ≡ length links
-  pub each : (i : ℕ) → i < length links → slice_index ends i ≡ end_of links i
+abbrev pub AreEnds : List ℕ → List ℕ → Type 0
+AreEnds links ends = AreEndNumbers links (λ e. e) ends

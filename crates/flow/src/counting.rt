@@ -166,7 +166,7 @@ fn counts(
 
 /// Returns `number` as the count of a data cell, or the `Count` of NODATA.
 #[inline(always)]
-fn count_where_data(code: Option<Code>, number: u32) -> Count
+pub(crate) fn count_where_data(code: Option<Code>, number: u32) -> Count
     ensures { number < uncounted → result ≡ where_data code number }
 {
     match code {

@@ -1,15 +1,148 @@
-//! Finds where each node's path along links ends: at a node that is linked to itself.
+//! Finds the numbers of the nodes where nodes' paths along links end: [`Paths`].
 //!
-//! The loops have labels, by which proofs name them.
+//! A path ends at a node that is linked to itself. The loops have labels, by which proofs name them.
+ghost use Rattle.std.proofs.Props.{props};
 ghost use Rattle.std.specs.Prelude.{◌≡◌, ◌^◌, ◌<◌, ◌≤◌, ℕ, length, IfOk};
-ghost use Rattle.flow.specs.Streams.{AreStreams, AreEnds, end_of};
-ghost use Rattle.flow.specs.Finding.{AreKnownEnds, IsKnown};
+ghost use Rattle.terrain.specs.StoredCells.{uncounted};
+ghost use Rattle.flow.specs.Streams.{AreStreams, AreEnds, AreEndNumbers, end_of};
+ghost use Rattle.flow.specs.Finding.{AreKnown, HaveNumbers, IsKnown};
 
+use crate::end_numbers::EndNumbering;
 use crate::nodes::Links;
 use std::alloc::{AllocError, Global};
 
-/// The entry of a node whose end is still unknown.
+/// The entry of a node whose end's number is still unknown.
 const UNKNOWN: u32 = u32::MAX;
+
+/// Nodes as their own numbers.
+#[derive(Drop)]
+pub(crate) struct OwnNumbers {
+    // The number of nodes; for contracts alone.
+    nodes: u32,
+}
+
+impl OwnNumbers {
+    /// Numbers the nodes of these links by themselves.
+    pub(crate) fn of<L: Links>(links: &L) -> OwnNumbers
+        requires { length (L.list links.now) ≤ 2 ^ 30 }
+        ensures { result.nodes ≡ length (L.list links.now) }
+    {
+        OwnNumbers {
+            nodes: links.count() as u32,
+        }
+    }
+}
+
+impl EndNumbering for OwnNumbers {
+    ghost numbers = { λ o. record { cells = o.nodes; number = λ i. i } };
+
+    #[inline(always)]
+    fn number(&self, index: usize) -> u32 {
+        // The read brings the prover the range of `nodes`.
+        prove!(index < self.nodes as usize);
+        index as u32
+    }
+}
+
+/// Paths along links, and the numbers of the nodes where they end.
+#[derive(Drop)]
+pub(crate) struct Paths<'a, L: Links, N: EndNumbering> {
+    pub(crate) links: &'a L,
+    pub(crate) numbers: &'a N,
+    ghost sound: { HaveNumbers (L.list links.now) (N.numbers numbers.now) } by { Prim.hlevel props },
+}
+
+impl<'a, L: Links, N: EndNumbering> Paths<'a, L, N> {
+    /// Returns for each node the number of the node where its path ends.
+    pub(crate) fn end_numbers(&self, alloc: Global) -> Result<Vec<u32>, AllocError>
+        ensures { IfOk result (λ v. AreEndNumbers (L.list self.now.links.now)
+            (N.numbers self.now.numbers.now).number v.items) }
+    {
+        let mut found = self.unknown(alloc)?;
+        self.find_all(&mut found);
+        Ok(found)
+    }
+
+    /// Returns a list for all nodes, in which each number is still unknown.
+    pub(crate) fn unknown(&self, alloc: Global) -> Result<Vec<u32>, AllocError>
+        ensures { IfOk result (λ v. AreKnown (L.list self.now.links.now)
+            (N.numbers self.now.numbers.now).number v.items) }
+    {
+        vec![in alloc; UNKNOWN; self.links.count()]
+    }
+
+    fn find_all(&self, found: &mut [u32])
+        requires found { AreKnown (L.list self.now.links.now)
+            (N.numbers self.now.numbers.now).number found.old }
+        ensures { AreEndNumbers (L.list self.now.links.now)
+            (N.numbers self.now.numbers.now).number found.new }
+    {
+        for node in 0..self.links.count() {
+            self.find(found, node);
+        }
+    }
+
+    /// Returns the number of the end of a node's path.
+    /// Writes it into `found` for each node of the path before the first with a known number.
+    #[inline(always)]
+    pub(crate) fn find(&self, found: &mut [u32], node: usize) -> u32
+        requires found { AreKnown (L.list self.now.links.now)
+            (N.numbers self.now.numbers.now).number found.old }
+        requires inside { node < length (L.list self.now.links.now) }
+        ensures value { result
+            ≡ (N.numbers self.now.numbers.now).number (end_of (L.list self.now.links.now) node) }
+        ensures found { AreKnown (L.list self.now.links.now)
+            (N.numbers self.now.numbers.now).number found.new }
+        ensures kept { (i : ℕ) → IsKnown found.old i → IsKnown found.new i }
+        ensures known { IsKnown found.new node }
+    {
+        let number = self.number_from(found, node);
+        self.write(found, node, number);
+        number
+    }
+
+    /// Returns the number of the end of the path of `from`.
+    /// Follows links up to that end, or up to a node with a known number.
+    #[inline(always)]
+    fn number_from(&self, found: &[u32], from: usize) -> u32
+        requires found { AreKnown (L.list self.now.links.now)
+            (N.numbers self.now.numbers.now).number found.now }
+        requires inside { from < length (L.list self.now.links.now) }
+        ensures { result
+            ≡ (N.numbers self.now.numbers.now).number (end_of (L.list self.now.links.now) from) }
+    {
+        let mut node = from;
+        'path: while found[node] == UNKNOWN {
+            let next = self.links.next(node);
+            if next == node {
+                return self.numbers.number(next);
+            }
+            node = next;
+        }
+        found[node]
+    }
+
+    /// Writes `number` for nodes on the path of `from`.
+    /// Stops at the first node with a known number.
+    #[inline(always)]
+    fn write(&self, found: &mut [u32], from: usize, number: u32)
+        requires found { AreKnown (L.list self.now.links.now)
+            (N.numbers self.now.numbers.now).number found.old }
+        requires inside { from < length (L.list self.now.links.now) }
+        requires number { number
+            ≡ (N.numbers self.now.numbers.now).number (end_of (L.list self.now.links.now) from) }
+        ensures found { AreKnown (L.list self.now.links.now)
+            (N.numbers self.now.numbers.now).number found.new }
+        ensures kept { (i : ℕ) → IsKnown found.old i → IsKnown found.new i }
+        ensures known { IsKnown found.new from }
+    {
+        let mut node = from;
+        'path: while found[node] == UNKNOWN {
+            found[node] = number;
+            node = self.links.next(node);
+        }
+    }
+}
 
 /// Returns the node where each node's path ends.
 pub(crate) fn ends<L: Links>(alloc: Global, links: &L) -> Result<Vec<u32>, AllocError>
@@ -17,57 +150,8 @@ pub(crate) fn ends<L: Links>(alloc: Global, links: &L) -> Result<Vec<u32>, Alloc
     requires few { length (L.list links.now) ≤ 2 ^ 30 }
     ensures { IfOk result (λ v. AreEnds (L.list links.now) v.items) }
 {
-    let mut ends = unknown_ends(alloc, links)?;
-    find_ends(links, &mut ends);
-    Ok(ends)
-}
-
-/// Returns the links as a list, for loops that read a link more than once.
-pub(crate) fn link_list<L: Links>(alloc: Global, links: &L) -> Result<Vec<u32>, AllocError>
-    requires streams { AreStreams (L.list links.now) }
-    requires few { length (L.list links.now) ≤ 2 ^ 30 }
-    ensures { IfOk result (λ v. v.items ≡ L.list links.now) }
-{
-    let mut list = Vec::with_capacity(alloc, links.count())?;
-    for node in 0..links.count() {
-        list.push(links.next(node) as u32)?;
-    }
-    Ok(list)
-}
-
-/// Returns a list of ends for all nodes, each still unknown.
-pub(crate) fn unknown_ends<L: Links>(alloc: Global, links: &L) -> Result<Vec<u32>, AllocError>
-    ensures { IfOk result (λ v. AreKnownEnds (L.list links.now) v.items) }
-{
-    vec![in alloc; UNKNOWN; links.count()]
-}
-
-fn find_ends<L: Links>(links: &L, ends: &mut [u32])
-    requires streams { AreStreams (L.list links.now) }
-    requires few { length (L.list links.now) ≤ 2 ^ 30 }
-    requires found { AreKnownEnds (L.list links.now) ends.old }
-    ensures { AreEnds (L.list links.now) ends.new }
-{
-    for node in 0..links.count() {
-        find_end(links, ends, node);
-    }
-}
-
-/// Returns the end of a node's path.
-/// Writes this end into `ends` for each node of the path before the first whose end is known.
-pub(crate) fn find_end<L: Links>(links: &L, ends: &mut [u32], node: usize) -> u32
-    requires streams { AreStreams (L.list links.now) }
-    requires few { length (L.list links.now) ≤ 2 ^ 30 }
-    requires found { AreKnownEnds (L.list links.now) ends.old }
-    requires inside { node < length (L.list links.now) }
-    ensures value { result ≡ end_of (L.list links.now) node }
-    ensures found { AreKnownEnds (L.list links.now) ends.new }
-    ensures kept { (i : ℕ) → IsKnown ends.old i → IsKnown ends.new i }
-    ensures known { IsKnown ends.new node }
-{
-    let last = end_from(links, ends, node);
-    write_end(links, ends, node, last);
-    last
+    let numbers = &OwnNumbers::of(links);
+    Paths { links, numbers }.end_numbers(alloc)
 }
 
 /// Returns the end of the path of `from`, without a list of known ends.
@@ -84,45 +168,5 @@ pub(crate) fn end_of<L: Links>(links: &L, from: usize) -> u32
             return next as u32;
         }
         node = next;
-    }
-}
-
-/// Returns the end of the path of `from`.
-/// Follows links up to that end, or up to a node whose end is known.
-#[inline]
-fn end_from<L: Links>(links: &L, ends: &[u32], from: usize) -> u32
-    requires streams { AreStreams (L.list links.now) }
-    requires few { length (L.list links.now) ≤ 2 ^ 30 }
-    requires found { AreKnownEnds (L.list links.now) ends.now }
-    requires inside { from < length (L.list links.now) }
-    ensures { result ≡ end_of (L.list links.now) from }
-{
-    let mut node = from;
-    'path: while ends[node] == UNKNOWN {
-        let next = links.next(node);
-        if next == node {
-            return next as u32;
-        }
-        node = next;
-    }
-    ends[node]
-}
-
-/// Writes `last` as the end of nodes on the path of `from`.
-/// Stops at the first node whose end is known.
-fn write_end<L: Links>(links: &L, ends: &mut [u32], from: usize, last: u32)
-    requires streams { AreStreams (L.list links.now) }
-    requires few { length (L.list links.now) ≤ 2 ^ 30 }
-    requires found { AreKnownEnds (L.list links.now) ends.old }
-    requires inside { from < length (L.list links.now) }
-    requires last { last ≡ end_of (L.list links.now) from }
-    ensures found { AreKnownEnds (L.list links.now) ends.new }
-    ensures kept { (i : ℕ) → IsKnown ends.old i → IsKnown ends.new i }
-    ensures known { IsKnown ends.new from }
-{
-    let mut node = from;
-    'path: while ends[node] == UNKNOWN {
-        ends[node] = last;
-        node = links.next(node);
     }
 }

@@ -1,18 +1,17 @@
 //! Numbers each data cell by the cell where its flow path ends: [`number_cells`].
 //! Such an end is an outlet or, for catchments, also a gauge, which gets an outlet's code.
 ghost use Rattle.std.proofs.Props.{props};
-ghost use Rattle.std.specs.Prelude.{◌≡◌, ◌*◌, ◌<◌, ℕ, length, slice_index_or, None, IfOk, IfSome};
+ghost use Rattle.std.specs.Prelude.{◌≡◌, ◌*◌, ◌<◌, ℕ, length, slice_index, IfOk, IfSome};
 ghost use Rattle.terrain.specs.Neighbours.{index_of};
 ghost use Rattle.terrain.specs.StoredCells.{uncounted};
 ghost use Rattle.tiles.specs.Cutting.{IsWithin};
 ghost use Rattle.tile_jobs.specs.Fault.{RefusesWorkers};
 ghost use Rattle.flow.specs.Counts.{IsMapOf};
-ghost use Rattle.flow.specs.Streams.{AreEnds};
 ghost use Rattle.flow.specs.Whole.{IsGridFlow, make_directed};
-ghost use Rattle.flow.specs.TileLinks.{links_by};
 ghost use Rattle.flow.specs.RimGraph.{listed_outlet};
-ghost use Rattle.flow.specs.Numbering.{AreReady, IsNumberedPlace, end_number, number_at, exit_number_by, exit_numbers_by, cell_number, cell_numbers_by};
+ghost use Rattle.flow.specs.Numbering.{AreNumberedCells, AreReady, cell_numbers_by, end_number, number_at};
 
+use crate::counting::count_where_data;
 use crate::end_numbers::EndNumbering;
 use crate::flowing::exit_tiles;
 use crate::outlets::Outlets;
@@ -54,57 +53,19 @@ impl<'a, N: EndNumbering> TileMap for Numbering<'a, N> {
 
     fn tile(&self, alloc: Global, tile: u32) -> Result<Vec<Count>, NoMemory> {
         let flow = &self.flows[tile as usize];
-        let ends = flow.ends(alloc)?;
-        let by_exit = self.exit_numbers(alloc, flow, &ends)?;
-        let values = cell_numbers(alloc, flow, &ends, &by_exit)?;
+        let numbers = flow.exit_numbers(
+            alloc,
+            &TileNumbers {
+                numbering: self,
+                flow,
+            },
+        )?;
+        let values = cell_numbers(alloc, flow.codes(), &numbers)?;
         Ok(values)
     }
 }
 
 impl<'a, N: EndNumbering> Numbering<'a, N> {
-    /// Lists the number of each exit's outlet at the exit's index, 0 elsewhere.
-    #[tactic(auto, using(crate::proofs::Ranges::mapped_next))]
-    fn exit_numbers(
-        &self,
-        alloc: Global,
-        flow: &TileExits,
-        ends: &[u32],
-    ) -> Result<Vec<u32>, AllocError>
-        requires ends { AreEnds (links_by flow.now.bounds flow.now.codes) ends.now }
-        requires exits { (i : ℕ) → IfSome (slice_index_or flow.now.exits i None)
-            (IsNumberedPlace self.now.outlets self.now.flows.items (N.numbers self.now.numbers)
-            flow.now.bounds) }
-        ensures { IfOk result (λ v. v.items
-            ≡ exit_numbers_by self.now.outlets self.now.flows.items (N.numbers self.now.numbers)
-            flow.now) }
-    {
-        let mut by_exit = Vec::with_capacity(alloc, flow.cell_count())?;
-        for index in 0..flow.cell_count() {
-            by_exit.push(self.exit_number(flow, ends, index))?;
-        }
-        Ok(by_exit)
-    }
-
-    #[inline(always)]
-    fn exit_number(&self, flow: &TileExits, ends: &[u32], index: usize) -> u32
-        requires ends { AreEnds (links_by flow.now.bounds flow.now.codes) ends.now }
-        requires index { index < length flow.now.exits }
-        requires exit { IfSome (slice_index_or flow.now.exits index None)
-            (IsNumberedPlace self.now.outlets self.now.flows.items (N.numbers self.now.numbers)
-            flow.now.bounds) }
-        ensures { result ≡ exit_number_by self.now.outlets self.now.flows.items
-            (N.numbers self.now.numbers) flow.now.bounds index
-            (slice_index_or flow.now.exits index None) }
-    {
-        let Some(exit) = flow.exit_index(ends, index) else {
-            return 0;
-        };
-        if exit as usize != index {
-            return 0;
-        }
-        self.number_of(flow.bounds().place_at(exit))
-    }
-
     /// Returns the number of an exit's outlet, 0 if the place is no exit.
     fn number_of(&self, exit: Place) -> u32
         requires within { IsWithin self.now.outlets.cutting exit }
@@ -117,6 +78,28 @@ impl<'a, N: EndNumbering> Numbering<'a, N> {
             Some(outlet) => self.numbers.number(outlet.index_in(self.tiling.cols())),
             None => 0,
         }
+    }
+}
+
+/// The numbers of the outlets of a tile's exits, by their indexes in the tile; 0 elsewhere.
+#[derive(Drop)]
+struct TileNumbers<'a, 'b, N: EndNumbering> {
+    numbering: &'b Numbering<'a, N>,
+    flow: &'b TileExits,
+    ghost ready: { AreNumberedCells numbering.now.outlets numbering.now.flows.items
+        (N.numbers numbering.now.numbers) flow.now } by { Prim.hlevel props },
+}
+
+impl<'a, 'b, N: EndNumbering> EndNumbering for TileNumbers<'a, 'b, N> {
+    ghost use Rattle.flow.specs.Numbering.{tile_numbers};
+
+    ghost numbers = { λ x. tile_numbers x.numbering.now.outlets x.numbering.now.flows.items
+        (N.numbers x.numbering.now.numbers) x.flow.now };
+
+    #[inline(always)]
+    fn number(&self, index: usize) -> u32 {
+        self.numbering
+            .number_of(self.flow.bounds().place_at(index as u32))
     }
 }
 
@@ -149,37 +132,20 @@ pub(crate) fn number_cells<R: Threads + Wait + Sync, G: Gate + Sync, N: EndNumbe
     })
 }
 
-/// Returns each cell's number, which `by_exit` has at the index of its exit.
-/// NODATA has [`Count::none`].
+/// Returns the number of each data cell. NODATA has [`Count::none`].
 #[tactic(auto, using(crate::proofs::Ranges::mapped_next))]
 fn cell_numbers(
     alloc: Global,
-    flow: &TileExits,
-    ends: &[u32],
-    by_exit: &[u32],
+    codes: &[Option<Code>],
+    numbers: &[u32],
 ) -> Result<Vec<Count>, AllocError>
-    requires ends { AreEnds (links_by flow.now.bounds flow.now.codes) ends.now }
-    requires size { length by_exit.now ≡ length flow.now.exits }
-    ensures { IfOk result
-        (λ v. v.items ≡ cell_numbers_by flow.now.bounds by_exit.now flow.now.exits) }
+    requires size { length numbers.now ≡ length codes.now }
+    requires few { (i : ℕ) → i < length codes.now → slice_index numbers.now i < uncounted }
+    ensures { IfOk result (λ v. v.items ≡ cell_numbers_by codes.now numbers.now) }
 {
-    let mut values = Vec::with_capacity(alloc, by_exit.len())?;
-    for index in 0..by_exit.len() {
-        values.push(cell_number(flow, ends, by_exit, index))?;
+    let mut values = Vec::with_capacity(alloc, codes.len())?;
+    for index in 0..codes.len() {
+        values.push(count_where_data(codes[index], numbers[index]))?;
     }
     Ok(values)
-}
-
-#[inline(always)]
-fn cell_number(flow: &TileExits, ends: &[u32], by_exit: &[u32], index: usize) -> Count
-    requires ends { AreEnds (links_by flow.now.bounds flow.now.codes) ends.now }
-    requires size { length by_exit.now ≡ length flow.now.exits }
-    requires index { index < length by_exit.now }
-    ensures { result
-        ≡ cell_number flow.now.bounds by_exit.now (slice_index_or flow.now.exits index None) }
-{
-    match flow.exit_index(ends, index) {
-        Some(exit) => Count::of(by_exit[exit as usize]),
-        None => Count::none(),
-    }
 }

@@ -7,12 +7,12 @@ ghost use Rattle.std.specs.Prelude.{◌≡◌, ◌*◌, ◌^◌, ◌<◌, ◌≤
 ghost use Rattle.tiles.specs.Cutting.{IsInBounds, IsWithinLimits, index_in};
 ghost use Rattle.tiles.specs.RimNumbers.{stride};
 ghost use Rattle.flow.specs.Streams.{AreStreams, end_of};
-ghost use Rattle.flow.specs.Finding.{AreKnownEnds};
+ghost use Rattle.flow.specs.Finding.{AreKnown};
 ghost use Rattle.flow.specs.TileLinks.{EndsInLargestGrid, rim_ends_by};
 ghost use Rattle.flow.specs.RimGraph.{side_cell};
 
 use crate::cells::is_place;
-use crate::ends::{end_of, find_end, unknown_ends};
+use crate::ends::{OwnNumbers, Paths, end_of};
 use crate::tile_links::TileLinks;
 use std::alloc::{AllocError, Global};
 use terrain::Place;
@@ -50,8 +50,10 @@ pub(crate) fn rim_ends(
     requires few { length links.now ≤ 2 ^ 30 }
     ensures { IfOk result (λ v. v.items ≡ rim_ends_by bounds links.now) }
 {
-    let mut found = unknown_ends(alloc, links)?;
-    ends_of_sides(alloc, bounds, links, &mut found)
+    let numbers = &OwnNumbers::of(links);
+    let paths = Paths { links, numbers };
+    let mut found = paths.unknown(alloc)?;
+    ends_of_sides(alloc, bounds, &paths, &mut found)
 }
 
 /// Returns the index where each rim cell's path along links ends.
@@ -60,21 +62,19 @@ pub(crate) fn rim_ends(
 fn ends_of_sides(
     alloc: Global,
     bounds: Bounds,
-    links: &TileLinks,
+    paths: &Paths<TileLinks, OwnNumbers>,
     found: &mut [u32],
 ) -> Result<Vec<u32>, AllocError>
     requires small { EndsInLargestGrid bounds }
     requires some_row { 1 ≤ bounds.rows }
-    requires size { length links.now ≡ bounds.rows * bounds.cols }
-    requires streams { AreStreams links.now }
-    requires few { length links.now ≤ 2 ^ 30 }
-    requires found { AreKnownEnds links.now found.old }
-    ensures { IfOk result (λ v. v.items ≡ rim_ends_by bounds links.now) }
+    requires size { length paths.now.links.now ≡ bounds.rows * bounds.cols }
+    requires found { AreKnown paths.now.links.now (λ e. e) found.old }
+    ensures { IfOk result (λ v. v.items ≡ rim_ends_by bounds paths.now.links.now) }
 {
     let mut ends = Vec::with_capacity(alloc, bounds.side_count() as usize)?;
     for side in 0..bounds.side_count() {
         let place = bounds.side_place(bounds, side);
-        ends.push(find_end(links, found, bounds.index_of(place)))?;
+        ends.push(paths.find(found, bounds.index_of(place)))?;
     }
     Ok(ends)
 }

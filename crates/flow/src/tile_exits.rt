@@ -1,16 +1,17 @@
 //! The exits inside one tile, without counts: [`TileExits`].
-ghost use Rattle.std.specs.Prelude.{◌≡◌, ◌<◌, length, slice_index_or, IfOk, IfSome, None};
-ghost use Rattle.std.specs.Option.{option_map};
+ghost use Rattle.std.specs.Prelude.{◌≡◌, ◌<◌, ℕ, length, slice_index_or, IfOk, None};
+ghost use Rattle.terrain.specs.StoredCells.{uncounted};
 ghost use Rattle.tiles.specs.Cutting.{IsInBounds, index_in, entry_in};
 ghost use Rattle.drainage.specs.Drained.{AllFlowEnds};
-ghost use Rattle.flow.specs.Streams.{AreEnds};
 ghost use Rattle.flow.specs.TileFlow.{directed_by, IsFlow, IsTileExits, exit_in};
 ghost use Rattle.flow.specs.TileLinks.{where_data, links_by};
 ghost use Rattle.flow.specs.Whole.{is_outlet_code};
 ghost use Rattle.flow.specs.RimGraph.{next_exit_in};
+ghost use Rattle.flow.specs.Numbering.{AreExitNumbers};
 
 use crate::cells::tile_codes;
-use crate::ends::{ends, link_list};
+use crate::end_numbers::EndNumbering;
+use crate::ends::Paths;
 use crate::rim::{end_in, rim_ends};
 use crate::tile_links::TileLinks;
 use drainage::Code;
@@ -79,14 +80,6 @@ impl TileExits {
         &self.links
     }
 
-    /// Returns the number of cells of the tile, NODATA included.
-    #[inline(always)]
-    pub(crate) fn cell_count(&self) -> usize
-        ensures { result ≡ length self.now.exits }
-    {
-        self.codes.len()
-    }
-
     /// Returns the exit of a place in the tile; `None` without data.
     #[inline(always)]
     fn exit_at(&self, place: Place) -> Option<Place>
@@ -100,25 +93,20 @@ impl TileExits {
         )
     }
 
-    /// Returns the index where each cell's path along the links ends.
-    pub(crate) fn ends(&self, alloc: Global) -> Result<Vec<u32>, AllocError>
-        ensures { IfOk result (λ v. AreEnds (links_by self.now.bounds self.now.codes) v.items) }
+    /// Returns for each cell the number of its exit; `numbers` has those of the tile's cells.
+    pub(crate) fn exit_numbers<N: EndNumbering>(
+        &self,
+        alloc: Global,
+        numbers: &N,
+    ) -> Result<Vec<u32>, AllocError>
+        requires cells { (N.numbers numbers.now).cells ≡ length self.now.exits }
+        requires few { (i : ℕ) → i < length self.now.exits →
+            (N.numbers numbers.now).number i < uncounted }
+        ensures { IfOk result
+            (λ v. AreExitNumbers self.now (N.numbers numbers.now).number v.items) }
     {
-        // In a list each link is read at once; a move takes arithmetic each time.
-        let links = link_list(alloc, &self.links)?;
-        ends(alloc, &links)
-    }
-
-    /// Returns the index of a cell's exit, read from `ends`; `None` without data.
-    #[inline(always)]
-    pub(crate) fn exit_index(&self, ends: &[u32], index: usize) -> Option<u32>
-        requires ends { AreEnds (links_by self.now.bounds self.now.codes) ends.now }
-        requires index { index < length self.now.exits }
-        ensures value { result
-            ≡ option_map (index_in self.now.bounds) (slice_index_or self.now.exits index None) }
-        ensures below { IfSome result (λ exit. exit < length self.now.exits) }
-    {
-        where_data(self.codes[index], ends[index])
+        let links = &self.links;
+        Paths { links, numbers }.end_numbers(alloc)
     }
 
     /// Returns the exit that leads water from `entry` out of the tile, if any.

@@ -1,5 +1,4 @@
-use Rattle.std.proofs.Common.{◌≡◌, ◌+◌, ◌^◌, ◌<◌, ap, ◌∙◌, arith, rules, unwrap_or}
-use Rattle.tiles.specs.RimNumbers.{rim_place}
+use Rattle.std.proofs.Common.{◌≡◌, ◌+◌, ◌^◌, ◌<◌, ap, ◌∙◌, arith, rules}
 use Rattle.flow.specs.Inflows.{rim_weight, through_by}
 use Rattle.flow.proofs.RimFlows.{target_is, targets_size, target_from, within_of}
 use Rattle.flow.proofs.RimTotals.{weight_few}

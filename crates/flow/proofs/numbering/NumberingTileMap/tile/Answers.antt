@@ -2,34 +2,33 @@ use Rattle.std.proofs.Common.{◌≡◌, length, get_or, None, Some, slice_get, 
 use Rattle.std.proofs.lemmas.Option.{slice_get_read}
 use Rattle.std.proofs.lemmas.List.FromFn.{length-map-range_with_len}
 use Rattle.tile_maps.proofs.Whole.{tile_of_entries}
-use Rattle.flow.specs.Numbering.{IsEndNumberAt, exit_number_by, cell_number, cell_numbers_by}
+use Rattle.flow.specs.TileLinks.{where_data}
+use Rattle.flow.specs.Numbering.{IsEndNumberAt, cell_numbers_by}
 use Rattle.flow.proofs.Numbered.{entry_numbered}
 use Rattle.flow.proofs.numbering.NumberingTileMap.tile.Goals as goal
 
-pub exit_numbers-requires-clause-ends : goal.exit_numbers-requires-clause-ends
-exit_numbers-requires-clause-ends g c =
-    let f = c.index-flow.result.now in
-    rw c.deref.ensures.value c.in_ok-ends.ensures
-
-pub exit_numbers-requires-clause-exits : goal.exit_numbers-requires-clause-exits
-exit_numbers-requires-clause-exits g c =
+pub invariant_of-exit_numbers : goal.invariant_of-exit_numbers
+invariant_of-exit_numbers g c =
     let m = c.args.self.now in
-    (m.ready.each c.args.tile c.index-flow.result.now
-    (slice_get_read m.flows.items (length m.flows.items) c.args.tile c.index-flow.result.now refl
-    (omega (arith, c.requires, m.ready.count)) c.index-flow.ensures)).exits
-
-pub cell_numbers-requires-clause-ends : goal.cell_numbers-requires-clause-ends
-cell_numbers-requires-clause-ends g c =
     let f = c.index-flow.result.now in
-    rw c.deref-2.ensures.value c.in_ok-ends.ensures
+    record {
+      ready = (m.ready.each c.args.tile f (slice_get_read m.flows.items (length m.flows.items) c.args.tile f refl
+          (omega (arith, c.requires, m.ready.count)) c.index-flow.ensures)).numbered;
+    }
 
 pub cell_numbers-requires-clause-size : goal.cell_numbers-requires-clause-size
 cell_numbers-requires-clause-size g c =
     let m = c.args.self.now in
     let f = c.index-flow.result.now in
-    ap length (c.deref-3.ensures.value ∙ c.in_ok-by_exit.ensures)
-    ∙ length-map-range_with_len (λ i. exit_number_by m.outlets m.flows.items
-    (g.N.EndNumbering.numbers m.numbers) f.bounds i (get_or f.exits i None)) 0 (length f.exits)
+    let ready = m.ready.each c.args.tile f (slice_get_read m.flows.items (length m.flows.items) c.args.tile f refl
+    (omega (arith, c.requires, m.ready.count)) c.index-flow.ensures) in
+    omega (
+      arith,
+      ap length c.deref.ensures.value,
+      c.in_ok-numbers.ensures.size,
+      ready.codes_size,
+      ap length c.codes.ensures,
+    )
 
 pub returns : goal.returns
 returns g c =
@@ -38,11 +37,12 @@ returns g c =
     let there : slice_get m.flows.items c.args.tile ≡ Some f =
     slice_get_read m.flows.items (length m.flows.items) c.args.tile f refl
     (omega (arith, c.requires, m.ready.count)) c.index-flow.ensures in
-    let made = c.in_ok-values.ensures ∙ ap (λ l. cell_numbers_by f.bounds l f.exits)
-    (c.deref-3.ensures.value ∙ c.in_ok-by_exit.ensures) in
-    let size = ap length c.in_ok-values.ensures ∙ length-map-range_with_len (λ i.
-    cell_number f.bounds c.deref-3.result.now (get_or f.exits i None)) 0 (length f.exits)
-    ∙ (m.ready.each c.args.tile f there).size in
+    let ready = m.ready.each c.args.tile f there in
+    let made = c.in_ok-values.ensures ∙ ap (λ l. cell_numbers_by l c.deref.result.now) c.codes.ensures
+    ∙ ap (cell_numbers_by f.codes) c.deref.ensures.value in
+    let size = ap length made ∙ length-map-range_with_len (λ i.
+    where_data (get_or f.codes i None) (get_or c.in_ok-numbers.numbers.items i 0)) 0 (length f.codes)
+    ∙ ready.codes_size ∙ ready.size in
     tile_of_entries m.tiling.now c.args.tile (IsEndNumberAt m.tiling.now m.flows.items m.outlets
     (g.N.EndNumbering.numbers m.numbers)) c.in_ok-values.values.items size
-    (λ p i d s. entry_numbered s c.args.tile f there made p i)
+    (λ p i d s. entry_numbered s c.args.tile f there c.in_ok-numbers.ensures made p i)
