@@ -1,6 +1,6 @@
 -- The data cells of a tile get the numbers of the ends of their flow paths.
 use Rattle.std.proofs.Common.{◌≡◌, ℕ, ◌*◌, ◌<◌, ◌≤◌, inl, inr, List, length, get_or, take, Option, None, Some, is_some, slice_get, sym, ap, subst, ◌∙◌, arith}
-use Rattle.std.proofs.lemmas.Bool.{cases_eq, cond-true, false≢true}
+use Rattle.std.proofs.lemmas.Bool.{cases_eq, cond-true, cond_both, false≢true}
 use Rattle.std.proofs.lemmas.List.{length-take}
 use Rattle.std.proofs.lemmas.List.Sums.{count_by-le-length}
 use Rattle.std.proofs.lemmas.List.FromFn.{get_or-map-range_with_len}
@@ -19,7 +19,7 @@ use Rattle.flow.specs.TileFlow.{Flow, exit_in, IsTileExits, IsExitOf, IsExitCell
 use Rattle.flow.specs.TileLinks.{where_data}
 use Rattle.flow.specs.Whole.{is_outlet_code, directed_on}
 use Rattle.flow.specs.RimGraph.{AreFlowsOf, AreOutlets, Outlets, listed_outlet}
-use Rattle.flow.specs.Numbering.{EndNumbers, end_number, outlet_numbers, IsNumbering, IsReady, AreReady, AreExitNumbers, IsNumberedPlace, number_at, tile_numbers, cell_numbers_by}
+use Rattle.flow.specs.Numbering.{EndNumbers, end_number, outlet_numbers, IsNumbering, IsReady, AreReady, AreExitNumbers, AreNumberedCells, IsNumberedPlace, number_at, tile_numbers, cell_numbers_by}
 use Rattle.flow.proofs.Coded.{IsCoded, cases_coded, coded_along, coded_inside}
 use Rattle.flow.proofs.Moved.{few_cells}
 use Rattle.flow.proofs.RimFlows.{within_of, last_same, exit_in_tile}
@@ -30,6 +30,13 @@ pub outlet_number_few : (codes : List (Option ℕ)) → length codes ≤ 4096 * 
 outlet_number_few codes few i =
     let before = take i codes in
     omega (arith, few, count_by-le-length is_outlet_code before, length-take i codes)
+
+-- The numbers of a tile's cells are below `uncounted`.
+pub numbers_few : {o : Outlets} {flows : List Flow} {n : EndNumbers} {f : Flow} → AreNumberedCells o flows n f →
+    (i : ℕ) → i < length f.exits → (tile_numbers o flows n f).number i < uncounted
+numbers_few {o} {flows} {n} {f} are i below =
+    cond_both (is_some (get_or f.codes i None)) _ 0 (λ (k : ℕ). k < uncounted) (λ _. (are.places i below).few)
+    (λ _. omega arith)
 
 -- A map's flows, the outlets found from them, and numbers below `uncounted` meet `IsNumbering`.
 pub numbering_of : {t : Cutting} (codes : List (Option ℕ)) {flows joined : List Flow} (o : Outlets)
@@ -117,6 +124,10 @@ module _ {d : Directed} {t : Cutting} {flows : List Flow} {o : Outlets} {n : End
     exit_entry p i =
         sym (cond-true {A = Option Place} _ _ _ (in_bounds_from f.bounds p (in_flow p i)))
 
+    code_entry : (p : Place) → IsInTile t tile p → get_or f.codes (index_in f.bounds p) None ≡ code_at d p
+    code_entry p i = sym (cond-true {A = Option ℕ} _ _ _ (in_bounds_from f.bounds p (in_flow p i)))
+        ∙ right.same_codes p i
+
     -- The exit of a data cell p, as the flow lists it.
     record Has (p : Place) : Type 0 where
       pub exit : Place
@@ -144,8 +155,8 @@ module _ {d : Directed} {t : Cutting} {flows : List Flow} {o : Outlets} {n : End
     tile_ready : IsReady t flows o n tile f
     tile_ready = record {
       size = cell_size;
-      codes_size = right.lawful.codes_size ∙ sym right.lawful.exits_size;
       numbered = record {
+        codes_size = right.lawful.codes_size ∙ sym right.lawful.exits_size;
         small = omega (arith, right.lawful.exits_size, few_cells f.bounds right.lawful.few_rows right.lawful.few_cols);
         places = λ i below.
             let tile_below : tile < tile_count t =
@@ -161,7 +172,8 @@ module _ {d : Directed} {t : Cutting} {flows : List Flow} {o : Outlets} {n : End
     exit_number_is : {p : Place} → IsCoded d p → (h : Has p) →
         (tile_numbers o flows n f).number (index_in f.bounds h.exit) ≡ end_number d n p
     exit_number_is is h =
-        ap (λ q. number_at o.cutting.cols n (listed_outlet o flows q))
+        cond-true {A = ℕ} _ _ 0 (ap is_some (code_entry h.exit h.inside ∙ h.coded.is))
+        ∙ ap (λ q. number_at o.cutting.cols n (listed_outlet o flows q))
         (place_in-index_in f.bounds h.exit (in_flow h.exit h.inside))
         ∙ ap (number_at o.cutting.cols n) (s.are_outlets.outlets h.exit (h.leads).4)
         ∙ number_of_last h.exit
@@ -183,7 +195,7 @@ module _ {d : Directed} {t : Cutting} {flows : List Flow} {o : Outlets} {n : End
         (index_in f.bounds p) (index_in f.bounds p) None
         (omega (arith, below, right.lawful.codes_size, right.lawful.exits_size)) (omega arith)
         ∙ ap (λ o. where_data o (get_or numbers (index_in f.bounds p) 0))
-        (sym (cond-true {A = Option ℕ} _ _ _ (in_bounds_from f.bounds p (in_flow p i))) ∙ right.same_codes p i) in
+        (code_entry p i) in
         elim (cases_coded d p) [
           | inl none ↦ rw none (entry ∙ ap (λ o. where_data o (get_or numbers (index_in f.bounds p) 0)) none)
           | inr is ↦

@@ -1,6 +1,6 @@
 -- Numbers of the cells where flow paths end, and the numbers that a tile's cells get from them.
 -- Private.
-use Rattle.std.specs.Prelude.{◌≡◌, ℕ, ◌+◌, ◌-◌, ◌*◌, ◌^◌, ◌<◌, ◌≤◌, List, map, length, take, count_by, Option, None, Some, IfSome, slice_get, slice_index, slice_index_or}
+use Rattle.std.specs.Prelude.{◌≡◌, ℕ, ◌+◌, ◌-◌, ◌*◌, ◌^◌, ◌<◌, ◌≤◌, List, map, length, take, count_by, Option, None, Some, IfSome, is_some, if◌then◌else◌, slice_get, slice_index, slice_index_or}
 use Rattle.std.specs.List.{range_with_len}
 use Rattle.terrain.specs.Neighbours.{index_of}
 use Rattle.terrain.specs.StoredCells.{uncounted}
@@ -63,19 +63,18 @@ pub record IsNumberedPlace (outlets : Outlets) (flows : List Flow) (n : EndNumbe
       (λ q. index_of outlets.cutting.cols q < n.cells)
   pub few : number_at outlets.cutting.cols n (listed_outlet outlets flows p) < uncounted
 
--- A flow has at most 2^24 cells, each a numbered place (`IsNumberedPlace`).
+-- A flow has at most 2^24 cells, each with a code or none, and a numbered place (`IsNumberedPlace`).
 pub record AreNumberedCells (outlets : Outlets) (flows : List Flow) (n : EndNumbers) (f : Flow) :
     Type 0 where
   pub small : length f.exits ≤ 2 ^ 24
+  pub codes_size : length f.codes ≡ length f.exits
   pub places : (i : ℕ) → i < length f.exits →
       IsNumberedPlace outlets flows n (place_in f.bounds i)
 
--- A tile's job requires that the flow has an exit and a code for each cell, and that the cells are
--- numbered places.
+-- A tile's job requires that the flow has an entry for each cell, and that the cells are numbered.
 pub record IsReady (t : Cutting) (flows : List Flow) (outlets : Outlets) (n : EndNumbers) (tile : ℕ)
     (f : Flow) : Type 0 where
   pub size : length f.exits ≡ cell_count t tile
-  pub codes_size : length f.codes ≡ length f.exits
   pub numbered : AreNumberedCells outlets flows n f
 
 -- What all jobs require: one flow for each tile, each as the tile's job requires (`IsReady`).
@@ -90,8 +89,9 @@ pub record AreReady (t : Cutting) (flows : List Flow) (outlets : Outlets)
 abbrev pub tile_numbers : Outlets → List Flow → EndNumbers → Flow → EndNumbers
 tile_numbers outlets flows n f = record {
   cells = length f.exits;
-  number = λ i.
-      number_at outlets.cutting.cols n (listed_outlet outlets flows (place_in f.bounds i));
+  number = λ i. if is_some (slice_index_or f.codes i None)
+      then number_at outlets.cutting.cols n (listed_outlet outlets flows (place_in f.bounds i))
+      else 0;
 }
 
 -- Each cell with an exit has the exit's number, and all numbers are below `uncounted`.

@@ -2,13 +2,14 @@
 //!
 //! A path ends at a node that is linked to itself. The loops have labels, by which proofs name them.
 ghost use Rattle.std.proofs.Props.{props};
-ghost use Rattle.std.specs.Prelude.{◌≡◌, ◌^◌, ◌<◌, ◌≤◌, ℕ, length, IfOk};
+ghost use Rattle.std.specs.Prelude.{◌≡◌, ◌^◌, ◌<◌, ◌≤◌, ℕ, length, true, IfOk};
 ghost use Rattle.terrain.specs.StoredCells.{uncounted};
 ghost use Rattle.flow.specs.Streams.{AreStreams, AreEnds, AreEndNumbers, end_of};
 ghost use Rattle.flow.specs.Finding.{AreKnown, HaveNumbers, IsKnown};
 
 use crate::end_numbers::EndNumbering;
 use crate::nodes::Links;
+use crate::streams::zeros;
 use std::alloc::{AllocError, Global};
 
 /// The entry of a node whose end's number is still unknown.
@@ -58,9 +59,25 @@ impl<'a, L: Links, N: EndNumbering> Paths<'a, L, N> {
         ensures { IfOk result (λ v. AreEndNumbers (L.list self.now.links.now)
             (N.numbers self.now.numbers.now).number v.items) }
     {
+        if self.are_zero() {
+            return zeros(alloc, self.links.count());
+        }
         let mut found = self.unknown(alloc)?;
         self.find_all(&mut found);
         Ok(found)
+    }
+
+    /// Returns whether all ends have number 0, as in most tiles by few gauges.
+    fn are_zero(&self) -> bool
+        ensures { result ≡ true → (i : ℕ) → i < length (L.list self.now.links.now) →
+            (N.numbers self.now.numbers.now).number (end_of (L.list self.now.links.now) i) ≡ 0 }
+    {
+        for node in 0..self.links.count() {
+            if self.links.next(node) == node && self.numbers.number(node) != 0 {
+                return false;
+            }
+        }
+        true
     }
 
     /// Returns a list for all nodes, in which each number is still unknown.

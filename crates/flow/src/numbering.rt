@@ -98,6 +98,9 @@ impl<'a, 'b, N: EndNumbering> EndNumbering for TileNumbers<'a, 'b, N> {
 
     #[inline(always)]
     fn number(&self, index: usize) -> u32 {
+        if self.flow.codes()[index].is_none() {
+            return 0;
+        }
         self.numbering
             .number_of(self.flow.bounds().place_at(index as u32))
     }
