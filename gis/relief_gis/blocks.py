@@ -12,7 +12,7 @@ Item = TypeVar("Item")
 Result = TypeVar("Result")
 
 # A call of numpy takes so long that threads seldom wait for Python's lock, and not all of a processor's cache.
-CELLS = 1 << 17
+CELLS = 1 << 18
 MOST_THREADS = 8
 # Arrays up to this size, of blocks and strips, are freed for reuse.
 KEPT = 5 << 20
@@ -21,6 +21,9 @@ MOST_BEHIND = 1
 PROCESSORS = len(os.sched_getaffinity(0)) if hasattr(os, "sched_getaffinity") else os.cpu_count() or 1
 # One is left to the program and to what is serial.
 THREADS = max(min(PROCESSORS - 1, MOST_THREADS), 1)
+# Those of `in_order`: as many are left to the program, to pipes and to compression. One more, of four, takes a tenth
+# longer.
+FEW_THREADS = max(min(PROCESSORS // 2, MOST_THREADS), 1)
 
 
 def _keep_freed() -> None:
@@ -45,10 +48,10 @@ def row_blocks(shape: Tuple[int, ...]) -> List[slice]:
 def in_order(work: Callable[[Item], Result], items: Iterable[Item]) -> Iterator[Result]:
     """The results of a function for each item, in order; few of them wait at a time."""
     waiting: Deque["Future[Result]"] = deque()
-    with ThreadPoolExecutor(THREADS) as pool:
+    with ThreadPoolExecutor(FEW_THREADS) as pool:
         for item in items:
             waiting.append(pool.submit(work, item))
-            if len(waiting) > 2 * THREADS:
+            if len(waiting) > 2 * FEW_THREADS:
                 yield waiting.popleft().result()
         while waiting:
             yield waiting.popleft().result()

@@ -227,7 +227,7 @@ def _status(words: Sequence[str]) -> int:
     """Runs the command and says what is wrong; its exit status."""
     try:
         _check_encoding(words)
-        _run(words, new_parser().parse_args(_joined(words)))
+        _run(words, new_parser(words).parse_args(_joined(words)))
     except GisError as error:
         say_if_heard(str(error))
         return error.status

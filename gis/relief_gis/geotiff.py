@@ -17,8 +17,8 @@ from .grid_text import STRIP
 SIDECARS = (".aux.xml", ".ovr", ".msk")
 # Level 6 takes two to five times as long as 1 and saves at most a sixth of the bytes.
 LAYOUT = ["TILED=YES", "COMPRESS=DEFLATE", "ZLEVEL=1", "BIGTIFF=IF_SAFER"]
-# Threads that compress values of up to 4 bytes: more keep those from Python's lock that read. Longer ones take more.
-GDAL_THREADS = max(PROCESSORS // 2, 1)
+# Threads that compress values of up to 4 bytes: one is left to what reads. Longer ones take more.
+GDAL_THREADS = max(PROCESSORS - 1, 1)
 # How many bytes are copied at once. GDAL's tiles have a side of STRIP.
 PIECE = 1 << 20
 

@@ -4,7 +4,7 @@ from __future__ import annotations
 import argparse
 import os
 from decimal import Decimal
-from typing import IO, Any, List, NoReturn, Optional, Union
+from typing import IO, Any, Collection, List, NoReturn, Optional, Union
 
 from . import __version__
 from .arguments import MOST_WORKERS
@@ -75,7 +75,8 @@ class _Once(argparse.Action):
         setattr(namespace, self.dest, values)
 
 
-def new_parser() -> argparse.ArgumentParser:
+def new_parser(words: Collection[str] = ()) -> argparse.ArgumentParser:
+    """The parser of words, which has the options of the maps among them; those of all where none are given."""
     parser = _Parser(NAME, description="Drainage and visibility maps from raster to GeoTIFF, made by relief.",
                      epilog=EPILOG, formatter_class=argparse.RawDescriptionHelpFormatter)
     parser.add_argument("--version", action="version", version=f"{NAME} {__version__}")
@@ -83,6 +84,8 @@ def new_parser() -> argparse.ArgumentParser:
     for name, about in ABOUT.items():
         one = maps.add_parser(name, help=about, description=f"Writes {about}.", epilog=EPILOG,
                               formatter_class=argparse.RawDescriptionHelpFormatter)
+        if words and name not in words:
+            continue
         _add_common(one)
         _add_places(one, name)
         if name not in SIGHT:
@@ -94,6 +97,8 @@ def new_parser() -> argparse.ArgumentParser:
     for name, about in TASKS.items():
         one = maps.add_parser(name, help=about, description=f"{'Writes' if name == 'maps' else 'Tells'} {about}.",
                               epilog=EPILOG, formatter_class=argparse.RawDescriptionHelpFormatter)
+        if words and name not in words:
+            continue
         {"maps": _add_maps, "profile": _add_profile, "compare": _add_comparison}[name](one)
     return parser
 

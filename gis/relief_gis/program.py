@@ -9,6 +9,7 @@ import queue
 import re
 import shutil
 import subprocess
+import threading
 import time
 from concurrent.futures import FIRST_COMPLETED, Future, ThreadPoolExecutor, wait
 from dataclasses import dataclass
@@ -76,6 +77,8 @@ class Program:
         version = _output_of(found, "--version").strip()
         if not re.fullmatch(r"relief \d+\.\d+\.\d+", version):
             raise MissingError(f"{found} is not the relief that makes maps: set {VARIABLE} to its path")
+        # A run takes it, and what is read before takes longer.
+        threading.Thread(target=_guard, daemon=True).start()
         return cls(found, version.split()[1], _output_of(found, "--help"))
 
     def has_map(self, name: str) -> bool:
