@@ -15,7 +15,7 @@ from .making import Place, Request
 from .points import Point, points_on_data, snap
 from .program import Program
 from .raster import Raster
-from .units import plain
+from .units import counted, plain
 
 if TYPE_CHECKING:
     from .job import Caller, Job
@@ -93,7 +93,7 @@ def _touches_cut(cells: Cells, window: Window, raster: Raster) -> bool:
 def _tell(place: Point, found: Cells, window: Window, is_sure: bool, is_cut: bool, raster: Raster,
           caller: Caller) -> None:
     caller.say(f"{window[2]:,} columns and {window[3]:,} rows are read round {plain(place.x)},{plain(place.y)}, to "
-               f"which {found[0].size:,} cells drain")
+               f"which {counted(found[0].size, 'cell drains', 'cells drain')}")
     if not is_sure:
         more = "reaches the border of what is read" if is_cut else "may change with more ground"
         caller.say(f"{MOST_SIDE:,} columns and rows are the most, and the catchment {more}: make the cells larger: "

@@ -11,7 +11,7 @@ from .errors import UsageError
 from .foreign import (CODES, ENDLESS, EQUAL, NEITHER, NO_CODE, SAME, classes_of, directions_of, matched_basins)
 from .heights import Heights
 from .making import NODATA_CODE, Place, edge_cells
-from .units import plain
+from .units import counted, plain
 
 COMPARED = ("fill", "flow", "accumulate", "basins")
 
@@ -71,11 +71,11 @@ def differences_of(pair: Pair, tell: Say) -> np.ndarray:
 
 
 def _told_of_data(ours: np.ndarray, theirs: np.ndarray) -> Iterator[str]:
-    yield f"{np.count_nonzero(ours & theirs):,} cells compared"
-    for count, words in ((np.count_nonzero(ours & ~theirs), "have heights, and no data in the other map"),
-                         (np.count_nonzero(theirs & ~ours), "have data in the other map, and no heights")):
+    yield f"{counted(np.count_nonzero(ours & theirs))} compared"
+    for count, words in ((np.count_nonzero(ours & ~theirs), "heights, and no data in the other map"),
+                         (np.count_nonzero(theirs & ~ours), "data in the other map, and no heights")):
         if count:
-            yield f"{count:,} cells {words}"
+            yield f"{counted(count, 'cell has', 'cells have')} {words}"
 
 
 def _compare_heights(pair: Pair, tell: Say) -> np.ndarray:
@@ -136,7 +136,7 @@ def _compare_directions(pair: Pair, tell: Say) -> np.ndarray:
 def _compare_basins(pair: Pair, tell: Say) -> np.ndarray:
     same, count, ours, theirs = matched_basins(pair.ours[pair.chosen], pair.theirs[pair.chosen])
     tell(f"{count:,} basins of the same cells, of {ours:,} by the definition and {theirs:,} of the other map")
-    tell(f"{np.count_nonzero(same):,} cells in them, {np.count_nonzero(~same):,} in others")
+    tell(f"{counted(np.count_nonzero(same))} in them, {np.count_nonzero(~same):,} in others")
     found = np.full(pair.chosen.shape, NODATA_CODE, np.uint8)
     found[pair.chosen] = ~same
     return found

@@ -8,6 +8,7 @@ import numpy as np
 from . import cures
 from .making import edge_cells
 from .raster import Terrain
+from .units import counted
 
 # Numbers that rasters use for "no data", and that are no heights on land.
 USUAL_NODATA = (-32768, -32767, -9999, -99999, 9999, 32767, 65535, 99999)
@@ -34,8 +35,8 @@ def doubtful_heights(terrain: Terrain) -> Iterator[str]:
 
 def _line(terrain: Terrain, number: float, where: str) -> str:
     count = np.count_nonzero((terrain.values == number) & terrain.valid)
-    return (f"{count:,} cells have the height {number:g}{where}, which often means no data, and are taken for terrain: "
-            f"if it does, {_naming(terrain, number)}")
+    return (f"{counted(count, 'cell has', 'cells have')} the height {number:g}{where}, which often means no data, and "
+            f"{'is' if count == 1 else 'are'} taken for terrain: if it does, {_naming(terrain, number)}")
 
 
 def _naming(terrain: Terrain, number: float) -> str:

@@ -8,7 +8,7 @@ import numpy as np
 
 from .blocks import for_rows, row_blocks
 from .making import NODATA_CODE, Place, edge_cells
-from .units import plain
+from .units import counted, plain
 
 # The maps of which it is told what lies downstream of a cut, and those of which a map of it can be made.
 COUNTED_MAPS = ("accumulate", "area", "streams")
@@ -75,9 +75,9 @@ def line_of(name: str, cells: np.ndarray, found: np.ndarray, cell_area: Fraction
         cell_area: in square units of the projection.
     """
     most = int(found.max(where=cells, initial=0))
-    counted = f"{plain((most + 1) * cell_area)} square units" if name == "area" else f"{most:,} other cells"
-    rest = f"up to {counted} drain through one of them, and land beyond may too"
-    return (f"{np.count_nonzero(cells):,} cells lie where the data ends or downstream of it: "
+    amount = f"{plain((most + 1) * cell_area)} square units" if name == "area" else f"{most:,} other cells"
+    rest = f"up to {amount} drain through one of them, and land beyond may too"
+    return (f"{counted(np.count_nonzero(cells), 'cell lies', 'cells lie')} where the data ends or downstream of it: "
             f"{rest if name in COUNTED_MAPS else 'land beyond may drain through them'}")
 
 
@@ -115,6 +115,6 @@ class GaugeCounts:
                 yield f"{number}, {gauge.name}: lies in the cell of {same}, and no cell has its number"
                 continue
             rest = f", {cut[number]:,} of them where the data ends" if cut[number] else ""
-            yield f"{number}, {gauge.name}: {sizes[number]:,} cells drain to it first{rest}"
+            yield f"{number}, {gauge.name}: {counted(sizes[number], 'cell drains', 'cells drain')} to it first{rest}"
         if cut[1:].any():
             yield "where the data ends, land beyond it may drain in, and the catchment is larger then"

@@ -16,7 +16,7 @@ from .frame import Frame
 from .heights import Heights, default_decimals, heights_of, scaled_decimals, scaled_integers
 from .making import SIGHT
 from .raster import Terrain, fill_holes
-from .units import MOST_DECIMALS, rounded_up
+from .units import MOST_DECIMALS, counted, rounded_up
 from .voids import Holes, find_holes
 
 if TYPE_CHECKING:
@@ -61,8 +61,7 @@ def checked(terrain: Terrain, job: Job, say: Say) -> Terrain:
     holes = find_holes(~terrain.valid)
     if not holes.count:
         return terrain
-    found = (f"voids: {holes.cell_count:,} cells in {holes.count:,} {'hole' if holes.count == 1 else 'holes'} "
-             "inside the land")
+    found = f"voids: {counted(holes.cell_count)} in {counted(holes.count, 'hole', 'holes')} inside the land"
     if job.voids == "refuse":
         drained = "leaves them, and they block no view" if job.map in SIGHT else "lets water out"
         raise InputError(f"{found}: --voids fill interpolates, --voids drain {drained}")
@@ -75,8 +74,9 @@ def checked(terrain: Terrain, job: Job, say: Say) -> Terrain:
 def _filled(terrain: Terrain, holes: Holes, found: str, say: Say) -> Terrain:
     cells = holes.cells
     fill_holes(terrain.values, terrain.valid, cells, holes.longest_side + 1)
-    say(f"{found}, interpolated; {int(np.count_nonzero(~terrain.valid)) - holes.cell_count:,} cells that reach the "
-        "border stay without data")
+    rest = int(np.count_nonzero(~terrain.valid)) - holes.cell_count
+    left = counted(rest, "cell that reaches the border stays", "cells that reach the border stay")
+    say(f"{found}, interpolated; {left} without data")
     return replace(terrain, valid=terrain.valid | cells)
 
 

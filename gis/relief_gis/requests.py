@@ -13,7 +13,7 @@ from .heights import Heights
 from .making import SIGHT, SOURCES, Place, Request, join_seen, lower_neighbour
 from .points import Point, Source, places_of, points_of, points_on_data, snap
 from .program import Program
-from .units import Reach, fraction_of, plain, radius_in_cells, whole_units
+from .units import Reach, counted, fraction_of, plain, radius_in_cells, whole_units
 
 if TYPE_CHECKING:
     from .job import Caller, Job
@@ -89,7 +89,7 @@ def radii(job: Job, points: Sequence[Point], frame: Frame, say: Say) -> Dict[Rea
         if radius is not None and radius not in found:
             found[radius] = radius_in_cells(radius, frame.cell)
     for radius, count in found.items():
-        say(f"radius {plain(radius)}: {count} whole cells of {plain(frame.cell)}")
+        say(f"radius {plain(radius)}: {counted(count, 'whole cell', 'whole cells')} of {plain(frame.cell)}")
     return found
 
 

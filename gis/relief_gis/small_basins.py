@@ -7,6 +7,7 @@ import numpy as np
 
 from .blocks import array_of
 from .grid_text import STRIP
+from .units import counted
 
 Say = Callable[[str], None]
 
@@ -24,6 +25,7 @@ def without_small(found: np.ndarray, least: int, say: Say) -> np.ndarray:
     # Cells without data are no basin.
     sizes[0] = 0
     is_small = (sizes > 0) & (sizes < least)
-    say(f"{np.count_nonzero(sizes >= max(least, 1)):,} basins have at least {least:,} cells; "
-        f"{np.count_nonzero(is_small):,} smaller ones are 0, with {int(sizes[is_small].sum()):,} cells")
+    say(f"{counted(np.count_nonzero(sizes >= max(least, 1)), 'basin has', 'basins have')} at least {counted(least)}; "
+        f"{counted(np.count_nonzero(is_small), 'smaller one is', 'smaller ones are')} 0, with "
+        f"{counted(int(sizes[is_small].sum()))}")
     return array_of(lambda rows: np.where(is_small[np.maximum(found[rows], 0)], 0, found[rows]), found.shape, np.int32)

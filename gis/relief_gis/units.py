@@ -138,6 +138,11 @@ def plain(value: Union[Fraction, Decimal, int]) -> str:
     return text.rstrip("0").rstrip(".")
 
 
+def counted(count: int, one: str = "cell", many: str = "cells") -> str:
+    """A number of things, with the words for one or for many of them."""
+    return f"{count:,} {one if count == 1 else many}"
+
+
 def rounded_up(value: Decimal) -> str:
     """A length above 0 with two significant digits, never less than it is."""
     return f"{value.quantize(Decimal(1).scaleb(value.adjusted() - 1), ROUND_UP):f}"

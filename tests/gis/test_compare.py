@@ -221,7 +221,7 @@ class Compare(Case):
         make_raster(self.folder / "other.tif", np.full(self.shape, NODATA, np.float32), NODATA)
         self.refuse(2, "other.tif has no data where dem.tif has", *compare)
         self.write({cell: height for cell, height in drainage.filled.items() if cell != (0, 0)})
-        self.assertIn("1 cells have heights, and no data in the other map", self.tell("fill"))
+        self.assertIn("1 cell has heights, and no data in the other map", self.tell("fill"))
         self.refuse(1, "other.tif is the other map that is read", *compare, "--out", "other.tif")
         make_raster(self.folder / "other.tif", array, projection="EPSG:25833")
         with contextlib.redirect_stdout(io.StringIO()):

@@ -193,7 +193,7 @@ class Holes(Case):
     def test_the_border_of_a_window_counts(self):
         self.rasters()
         for name in ("nodata.tif", "alpha.tif"):
-            self.refuse(2, "voids: 1 cells in 1 hole", "fill", name, "out.tif", "--window", "2,2,14,14")
+            self.refuse(2, "voids: 1 cell in 1 hole", "fill", name, "out.tif", "--window", "2,2,14,14")
 
     def test_relief_holes_fills_them_alone(self):
         for name in self.rasters()[2:]:

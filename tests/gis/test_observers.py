@@ -72,7 +72,7 @@ class Observers(Case):
     def test_voids_are_no_walls(self):
         make_raster(self.folder / "holed.tif", np.where(np.arange(25).reshape(5, 5) == 12, -9999, 3).astype(np.int16),
                     -9999)
-        found = "voids: 1 cells in 1 hole inside the land: --voids fill interpolates, --voids drain "
+        found = "voids: 1 cell in 1 hole inside the land: --voids fill interpolates, --voids drain "
         self.refuse(2, f"{found}leaves them, and they block no view", "view", "holed.tif", "out.tif", *at(1, 1),
                     "--eye", "3")
         self.refuse(2, f"{found}lets water out", "fill", "holed.tif", "out.tif")

@@ -183,7 +183,7 @@ class Algorithms(Case):
         done = self.run_algorithm("fill")
         self.assertNotEqual(done.returncode, 0)
         said = done.stdout + done.stderr
-        self.assertIn("1 cells in 1 hole inside the land", said)
+        self.assertIn("1 cell in 1 hole inside the land", said)
         self.assertIn("Holes inside the land", said)
         self.assertNotIn("--voids", said)
         self.assertNotIn("Traceback", said)

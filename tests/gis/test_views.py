@@ -126,11 +126,11 @@ class Parts(Views):
                       lines)
         array[9, 13:] = 5
         self.write(array)
-        self.refuse(2, "voids: 1 cells in 1 hole inside the land", *view)
-        self.refuse(2, "near point 1 (500315, 5199685): voids: 1 cells in 1 hole inside the land", *view, *at(3, 26),
+        self.refuse(2, "voids: 1 cell in 1 hole inside the land", *view)
+        self.refuse(2, "near point 1 (500315, 5199685): voids: 1 cell in 1 hole inside the land", *view, *at(3, 26),
                     "--voids", "refuse")
         lines = self.make(*view, *at(3, 26), "--voids", "drain")
-        self.assertIn("near point 1 (500315, 5199685): voids: 1 cells in 1 hole inside the land, left as they are",
+        self.assertIn("near point 1 (500315, 5199685): voids: 1 cell in 1 hole inside the land, left as they are",
                       lines)
 
     def test_bounds_of_a_wide_raster(self):
