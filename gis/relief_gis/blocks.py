@@ -21,8 +21,7 @@ MOST_BEHIND = 1
 PROCESSORS = len(os.sched_getaffinity(0)) if hasattr(os, "sched_getaffinity") else os.cpu_count() or 1
 # One is left to the program and to what is serial.
 THREADS = max(min(PROCESSORS - 1, MOST_THREADS), 1)
-# Those of `in_order`: as many are left to the program, to pipes and to compression. One more, of four, takes a tenth
-# longer.
+# Those of `in_order`: as many are left to the program, to pipes and to compression.
 FEW_THREADS = max(min(PROCESSORS // 2, MOST_THREADS), 1)
 
 
