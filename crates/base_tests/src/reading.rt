@@ -72,53 +72,37 @@ fn lenient_text(rt: HostRuntime) {
     assert_eq!(rt; (grid.cols(), grid.rows(), grid.scale()), (2, 2, 2));
 }
 
+/// Words after [`HEADER`] and the cells that they spell.
+const HEIGHTS: [(&[u8], [Option<Height>; 2]); 10] = [
+    (b" 3 4", [Some(3), Some(4)]),
+    (b" 3 1000000001", [Some(3), Some(1_000_000_001)]),
+    (b" 3 -1000000000", [Some(3), Some(-1_000_000_000)]),
+    (
+        b" 3 -1000000000000000",
+        [Some(3), Some(-1_000_000_000_000_000)],
+    ),
+    (
+        b" 1000000000000000 -1000000000000000",
+        [Some(1_000_000_000_000_000), Some(-1_000_000_000_000_000)],
+    ),
+    (b" +3. 4.000", [Some(3), Some(4)]),
+    (b" .0 -0.", [Some(0), Some(0)]),
+    (b" 0000000012\t-0000000003\n", [Some(12), Some(-3)]),
+    (
+        b" 00000000000000000012\t-00000000000000000003\n",
+        [Some(12), Some(-3)],
+    ),
+    (
+        b" 999999999999999 -999999999999999\n",
+        [Some(999_999_999_999_999), Some(-999_999_999_999_999)],
+    ),
+];
+
 #[test]
 fn heights(rt: HostRuntime) {
-    spells_after_header(&rt, rt.alloc(), b" 3 4", &[Some(3), Some(4)]);
-    spells_after_header(
-        &rt,
-        rt.alloc(),
-        b" 3 1000000001",
-        &[Some(3), Some(1_000_000_001)],
-    );
-    spells_after_header(
-        &rt,
-        rt.alloc(),
-        b" 3 -1000000000",
-        &[Some(3), Some(-1_000_000_000)],
-    );
-    spells_after_header(
-        &rt,
-        rt.alloc(),
-        b" 3 -1000000000000000",
-        &[Some(3), Some(-1_000_000_000_000_000)],
-    );
-    spells_after_header(
-        &rt,
-        rt.alloc(),
-        b" 1000000000000000 -1000000000000000",
-        &[Some(1_000_000_000_000_000), Some(-1_000_000_000_000_000)],
-    );
-    spells_after_header(&rt, rt.alloc(), b" +3. 4.000", &[Some(3), Some(4)]);
-    spells_after_header(&rt, rt.alloc(), b" .0 -0.", &[Some(0), Some(0)]);
-    spells_after_header(
-        &rt,
-        rt.alloc(),
-        b" 0000000012\t-0000000003\n",
-        &[Some(12), Some(-3)],
-    );
-    spells_after_header(
-        &rt,
-        rt.alloc(),
-        b" 00000000000000000012\t-00000000000000000003\n",
-        &[Some(12), Some(-3)],
-    );
-    spells_after_header(
-        &rt,
-        rt.alloc(),
-        b" 999999999999999 -999999999999999\n",
-        &[Some(999_999_999_999_999), Some(-999_999_999_999_999)],
-    );
+    for (words, cells) in HEIGHTS {
+        spells_after_header(&rt, rt.alloc(), words, &cells);
+    }
     let zeros =
         b"ncols 0000000000000000000000000000000000000000000000000000000000000002 nrows 1 xllcorner 0 yllcorner 0 cellsize 1 3 4";
     spells(&rt, rt.alloc(), 0, zeros, &[Some(3), Some(4)]);
@@ -146,208 +130,125 @@ fn heights_of_six_decimals(rt: HostRuntime) {
     }
 }
 
+const GAPS: [(&[u8], [Option<Height>; 2]); 7] = [
+    (b" 3 -9999.0", [Some(3), None]),
+    (b" NODATA_value 0 3 -0", [Some(3), None]),
+    (b" NODATA_value -9999.5 3 -9999.5", [Some(3), None]),
+    // NODATA below all heights, the greatest scaled value, and a word that has no scaled value.
+    (
+        b" NODATA_value -9999999999999999 3 -9999999999999999 ",
+        [Some(3), None],
+    ),
+    (
+        b" NODATA_value 1000000000000000000 3 1000000000000000000.0",
+        [Some(3), None],
+    ),
+    (b" NODATA_value 1e99 3 1e99", [Some(3), None]),
+    // A NODATA word with an exponent has no scaled value: only the same bytes are NODATA.
+    (
+        b" NODATA_value -9.999e3 -9.999e3 -9999",
+        [None, Some(-9999)],
+    ),
+];
+
 #[test]
 fn cells_without_data(rt: HostRuntime) {
-    spells_after_header(&rt, rt.alloc(), b" 3 -9999.0", &[Some(3), None]);
-    spells_after_header(&rt, rt.alloc(), b" NODATA_value 0 3 -0", &[Some(3), None]);
-    spells_after_header(
-        &rt,
-        rt.alloc(),
-        b" NODATA_value -9999.5 3 -9999.5",
-        &[Some(3), None],
-    );
-    // NODATA below all heights, the greatest scaled value, and a word that has no scaled value.
-    spells_after_header(
-        &rt,
-        rt.alloc(),
-        b" NODATA_value -9999999999999999 3 -9999999999999999 ",
-        &[Some(3), None],
-    );
-    spells_after_header(
-        &rt,
-        rt.alloc(),
-        b" NODATA_value 1000000000000000000 3 1000000000000000000.0",
-        &[Some(3), None],
-    );
-    spells_after_header(
-        &rt,
-        rt.alloc(),
-        b" NODATA_value 1e99 3 1e99",
-        &[Some(3), None],
-    );
-    refuses_after_header(
-        &rt,
-        rt.alloc(),
-        b" NODATA_value 1e99 3 1E99",
-        GridFault::BadHeight(1),
-    );
-    // A NODATA word with an exponent has no scaled value: only the same bytes are NODATA.
-    spells_after_header(
-        &rt,
-        rt.alloc(),
-        b" NODATA_value -9.999e3 -9.999e3 -9999",
-        &[None, Some(-9999)],
-    );
+    for (words, cells) in GAPS {
+        spells_after_header(&rt, rt.alloc(), words, &cells);
+    }
+    let other_case = b" NODATA_value 1e99 3 1E99";
+    refuses_after_header(&rt, rt.alloc(), other_case, GridFault::BadHeight(1));
 }
+
+/// Words after [`HEADER`] and the cell whose height is bad.
+const BAD_HEIGHTS: [(&[u8], u32); 12] = [
+    (b" 1e3 4", 0),
+    (b" 3 1.5", 1),
+    (b" 3 1000000000000001", 1),
+    (b" 1234567890123456 4", 0),
+    (b" 3 -1234567890123456 ", 1),
+    (b" 10000000000000000 4", 0),
+    // 2^64 + 3 and 64 digits do not wrap around.
+    (b" 3 18446744073709551619", 1),
+    (
+        b" 3 9999999999999999999999999999999999999999999999999999999999999999",
+        1,
+    ),
+    (b" . 4", 0),
+    // Bytes that are neither digits nor separators.
+    (b" 3 4\x0b", 1),
+    (b" 3\x0b4", 0),
+    (b" 3 \xff", 1),
+];
 
 #[test]
 fn bad_heights(rt: HostRuntime) {
-    refuses_after_header(&rt, rt.alloc(), b" 1e3 4", GridFault::BadHeight(0));
-    refuses_after_header(&rt, rt.alloc(), b" 3 1.5", GridFault::BadHeight(1));
-    refuses_after_header(
-        &rt,
-        rt.alloc(),
-        b" 3 1000000000000001",
-        GridFault::BadHeight(1),
-    );
-    refuses_after_header(
-        &rt,
-        rt.alloc(),
-        b" 1234567890123456 4",
-        GridFault::BadHeight(0),
-    );
-    refuses_after_header(
-        &rt,
-        rt.alloc(),
-        b" 3 -1234567890123456 ",
-        GridFault::BadHeight(1),
-    );
-    refuses_after_header(
-        &rt,
-        rt.alloc(),
-        b" 10000000000000000 4",
-        GridFault::BadHeight(0),
-    );
-    // 2^64 + 3 and 64 digits do not wrap around.
-    refuses_after_header(
-        &rt,
-        rt.alloc(),
-        b" 3 18446744073709551619",
-        GridFault::BadHeight(1),
-    );
-    refuses_after_header(
-        &rt,
-        rt.alloc(),
-        b" 3 9999999999999999999999999999999999999999999999999999999999999999",
-        GridFault::BadHeight(1),
-    );
-    refuses_after_header(&rt, rt.alloc(), b" . 4", GridFault::BadHeight(0));
-    // Bytes that are neither digits nor separators.
-    refuses_after_header(&rt, rt.alloc(), b" 3 4\x0b", GridFault::BadHeight(1));
-    refuses_after_header(&rt, rt.alloc(), b" 3\x0b4", GridFault::BadHeight(0));
-    refuses_after_header(&rt, rt.alloc(), b" 3 \xff", GridFault::BadHeight(1));
+    for (words, cell) in BAD_HEIGHTS {
+        refuses_after_header(&rt, rt.alloc(), words, GridFault::BadHeight(cell));
+    }
 }
 
 #[test]
 fn how_many_heights(rt: HostRuntime) {
-    refuses_after_header(&rt, rt.alloc(), b" 3", GridFault::TooFew(1));
-    refuses_after_header(&rt, rt.alloc(), b"", GridFault::TooFew(0));
-    refuses_after_header(&rt, rt.alloc(), b" 3 4 5", GridFault::TooMany);
+    for (words, fault) in [
+        (b" 3".as_slice(), GridFault::TooFew(1)),
+        (b"", GridFault::TooFew(0)),
+        (b" 3 4 5", GridFault::TooMany),
+    ] {
+        refuses_after_header(&rt, rt.alloc(), words, fault);
+    }
 }
+
+const BAD_KEYS: [(&[u8], GridFault); 11] = [
+    (b"", GridFault::MissingKey(Key::Ncols)),
+    (
+        b"ncols 2 NCOLS 2 nrows 1",
+        GridFault::RepeatedKey(Key::Ncols),
+    ),
+    (b"xllcorner 0 xllcenter 0", GridFault::RepeatedKey(Key::Xll)),
+    (
+        b"ncols 2 nrows 1 xllcorner 0 yllcorner 0 3 4",
+        GridFault::MissingKey(Key::Cellsize),
+    ),
+    (b"bogus 2 ncols 0", GridFault::UnknownKey),
+    (b"dx 1", GridFault::UnknownKey),
+    (b"ncols 2 nrows", GridFault::NoValue(Key::Nrows)),
+    // A byte order mark does not begin with a letter, so it is no key.
+    (b"\xef\xbb\xbfncols 2", GridFault::MissingKey(Key::Ncols)),
+    // An accented letter of two bytes begins no key.
+    (b"ncols 2 \xc3\xa9 1", GridFault::MissingKey(Key::Nrows)),
+    (b"ncols\x002", GridFault::UnknownKey),
+    (b"ncols\x0c2", GridFault::UnknownKey),
+];
 
 #[test]
 fn bad_keys(rt: HostRuntime) {
-    refuses(&rt, rt.alloc(), b"", GridFault::MissingKey(Key::Ncols));
-    refuses(
-        &rt,
-        rt.alloc(),
-        b"ncols 2 NCOLS 2 nrows 1",
-        GridFault::RepeatedKey(Key::Ncols),
-    );
-    refuses(
-        &rt,
-        rt.alloc(),
-        b"xllcorner 0 xllcenter 0",
-        GridFault::RepeatedKey(Key::Xll),
-    );
-    refuses(
-        &rt,
-        rt.alloc(),
-        b"ncols 2 nrows 1 xllcorner 0 yllcorner 0 3 4",
-        GridFault::MissingKey(Key::Cellsize),
-    );
-    refuses(&rt, rt.alloc(), b"bogus 2 ncols 0", GridFault::UnknownKey);
-    refuses(&rt, rt.alloc(), b"dx 1", GridFault::UnknownKey);
-    refuses(
-        &rt,
-        rt.alloc(),
-        b"ncols 2 nrows",
-        GridFault::NoValue(Key::Nrows),
-    );
-    // A byte order mark does not begin with a letter, so it is no key.
-    refuses(
-        &rt,
-        rt.alloc(),
-        b"\xef\xbb\xbfncols 2",
-        GridFault::MissingKey(Key::Ncols),
-    );
-    // An accented letter of two bytes begins no key.
-    refuses(
-        &rt,
-        rt.alloc(),
-        b"ncols 2 \xc3\xa9 1",
-        GridFault::MissingKey(Key::Nrows),
-    );
-    refuses(&rt, rt.alloc(), b"ncols\x002", GridFault::UnknownKey);
-    refuses(&rt, rt.alloc(), b"ncols\x0c2", GridFault::UnknownKey);
+    for (text, fault) in BAD_KEYS {
+        refuses(&rt, rt.alloc(), text, fault);
+    }
 }
+
+const BAD_VALUES: [(&[u8], GridFault); 8] = [
+    (b"ncols 4097", GridFault::BadSize(Key::Ncols)),
+    (b"ncols 0 nrows 1 bogus 2", GridFault::BadSize(Key::Ncols)),
+    (b"ncols ncols", GridFault::BadSize(Key::Ncols)),
+    (
+        b"nrows 18446744073709551617",
+        GridFault::BadSize(Key::Nrows),
+    ),
+    (b"cellsize -1", GridFault::BadPlace(Key::Cellsize)),
+    (b"cellsize 0.0e5", GridFault::BadPlace(Key::Cellsize)),
+    (b"xllcorner 1,5", GridFault::BadPlace(Key::Xll)),
+    (b"yllcenter 1e", GridFault::BadPlace(Key::Yll)),
+];
 
 #[test]
 fn bad_values(rt: HostRuntime) {
-    refuses(
-        &rt,
-        rt.alloc(),
-        b"ncols 4097",
-        GridFault::BadSize(Key::Ncols),
-    );
-    refuses(
-        &rt,
-        rt.alloc(),
-        b"ncols 0 nrows 1 bogus 2",
-        GridFault::BadSize(Key::Ncols),
-    );
-    refuses(
-        &rt,
-        rt.alloc(),
-        b"ncols ncols",
-        GridFault::BadSize(Key::Ncols),
-    );
-    refuses(
-        &rt,
-        rt.alloc(),
-        b"nrows 18446744073709551617",
-        GridFault::BadSize(Key::Nrows),
-    );
-    refuses(
-        &rt,
-        rt.alloc(),
-        b"cellsize -1",
-        GridFault::BadPlace(Key::Cellsize),
-    );
-    refuses(
-        &rt,
-        rt.alloc(),
-        b"cellsize 0.0e5",
-        GridFault::BadPlace(Key::Cellsize),
-    );
-    refuses(
-        &rt,
-        rt.alloc(),
-        b"xllcorner 1,5",
-        GridFault::BadPlace(Key::Xll),
-    );
-    refuses(
-        &rt,
-        rt.alloc(),
-        b"yllcenter 1e",
-        GridFault::BadPlace(Key::Yll),
-    );
-    refuses_after_header(
-        &rt,
-        rt.alloc(),
-        b" NODATA_value none 3 4",
-        GridFault::BadNodata,
-    );
+    for (text, fault) in BAD_VALUES {
+        refuses(&rt, rt.alloc(), text, fault);
+    }
+    let bad_nodata = b" NODATA_value none 3 4";
+    refuses_after_header(&rt, rt.alloc(), bad_nodata, GridFault::BadNodata);
     let tiny = b"ncols 1 nrows 1 xllcorner 0 yllcorner 0 cellsize 0.0001E-99 5";
     spells(&rt, rt.alloc(), 0, tiny, &[Some(5)]);
 }
