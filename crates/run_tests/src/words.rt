@@ -38,57 +38,56 @@ fn outcome_of<R: Threads + Wait + Sync>(rt: &R, alloc: Global, words: &[&str]) -
     }
 }
 
+/// Command lines, with the exit status and the error lines that they give.
+const STATUSES: [(&[&str], u8, &[u8]); 11] = [
+    (&["relief", "fill", "--tile=1"], 0, b""),
+    (&["relief", "view", "3,0,0"], 2, b"relief: 41 Outside 0\n"),
+    (
+        &["relief", "view", "0,0,0", "0,0"],
+        1,
+        b"relief: bad observer word 1\n",
+    ),
+    (
+        &["relief", "catchments", "0,0", "0,3"],
+        2,
+        b"relief: 61 GaugeOutside 1\n",
+    ),
+    (
+        &["relief", "catchments", "--sink", "3,0", "3,0"],
+        2,
+        b"relief: 46 SinkOutside 0\n",
+    ),
+    (
+        &["relief", "catchments", "0,0", "0"],
+        1,
+        b"relief: bad gauge word 1\n",
+    ),
+    (
+        &["relief", "maps", "flow", "1,1"],
+        1,
+        b"relief: bad map word 1\n",
+    ),
+    (
+        &["relief", "maps", "fill", "flow", "fill"],
+        1,
+        b"relief: a map is named twice\n",
+    ),
+    (
+        &["relief", "maps", "fill", "catchments"],
+        1,
+        b"relief: catchments without a gauge\n",
+    ),
+    (
+        &["relief", "maps", "--gauge", "1,1", "fill"],
+        1,
+        b"relief: a gauge without catchments\n",
+    ),
+    (&["relief", "--help"], 0, b""),
+];
+
 #[test]
 fn words_and_statuses(rt: HostRuntime) {
-    for (words, status, errors) in [
-        (["relief", "fill", "--tile=1"].as_slice(), 0, b"".as_slice()),
-        (
-            ["relief", "view", "3,0,0"].as_slice(),
-            2,
-            b"relief: 41 Outside 0\n".as_slice(),
-        ),
-        (
-            ["relief", "view", "0,0,0", "0,0"].as_slice(),
-            1,
-            b"relief: bad observer word 1\n".as_slice(),
-        ),
-        (
-            ["relief", "catchments", "0,0", "0,3"].as_slice(),
-            2,
-            b"relief: 61 GaugeOutside 1\n".as_slice(),
-        ),
-        (
-            ["relief", "catchments", "--sink", "3,0", "3,0"].as_slice(),
-            2,
-            b"relief: 46 SinkOutside 0\n".as_slice(),
-        ),
-        (
-            ["relief", "catchments", "0,0", "0"].as_slice(),
-            1,
-            b"relief: bad gauge word 1\n".as_slice(),
-        ),
-        (
-            ["relief", "maps", "flow", "1,1"].as_slice(),
-            1,
-            b"relief: bad map word 1\n".as_slice(),
-        ),
-        (
-            ["relief", "maps", "fill", "flow", "fill"].as_slice(),
-            1,
-            b"relief: a map is named twice\n".as_slice(),
-        ),
-        (
-            ["relief", "maps", "fill", "catchments"].as_slice(),
-            1,
-            b"relief: catchments without a gauge\n".as_slice(),
-        ),
-        (
-            ["relief", "maps", "--gauge", "1,1", "fill"].as_slice(),
-            1,
-            b"relief: a gauge without catchments\n".as_slice(),
-        ),
-        (["relief", "--help"].as_slice(), 0, b"".as_slice()),
-    ] {
+    for (words, status, errors) in STATUSES {
         let outcome = outcome_of(&rt, rt.alloc(), words);
         assert_eq!(rt; outcome.status, status, "{words:?}");
         assert_eq!(rt; outcome.errors.as_slice(), errors, "{words:?}");
@@ -101,16 +100,21 @@ fn are_refused<R: Threads + Wait + Sync>(rt: &R, alloc: Global, words: &[&str]) 
     outcome.status == 1 && !outcome.errors.is_empty()
 }
 
+const REFUSED: [&[&str]; 7] = [
+    &[],
+    &["relief"],
+    &["relief", "fill", "--tile", "0"],
+    &["relief", "fill", "--workers", "65"],
+    &["relief", "help"],
+    &["relief", "catchments"],
+    &["relief", "maps"],
+];
+
 #[test]
 fn no_words_and_refused_words(rt: HostRuntime) {
-    let alloc = rt.alloc();
-    assert!(rt; are_refused(&rt, alloc, &[]));
-    assert!(rt; are_refused(&rt, alloc, &["relief"]));
-    assert!(rt; are_refused(&rt, alloc, &["relief", "fill", "--tile", "0"]));
-    assert!(rt; are_refused(&rt, alloc, &["relief", "fill", "--workers", "65"]));
-    assert!(rt; are_refused(&rt, alloc, &["relief", "help"]));
-    assert!(rt; are_refused(&rt, alloc, &["relief", "catchments"]));
-    assert!(rt; are_refused(&rt, alloc, &["relief", "maps"]));
+    for words in REFUSED {
+        assert!(rt; are_refused(&rt, rt.alloc(), words), "{words:?}");
+    }
 }
 
 /// The help of a map gives input, output, defaults, limits and exit statuses.
@@ -199,51 +203,50 @@ fn sink_words(rt: HostRuntime) {
     }
 }
 
+const FAULT_LINES: [(RunFault, &[u8]); 11] = [
+    (
+        RunFault::Grid(GridFault::UnknownKey),
+        b"relief: 1 UnknownKey\n",
+    ),
+    (
+        RunFault::Grid(GridFault::RepeatedKey(Key::Xll)),
+        b"relief: 2 RepeatedKey xll\n",
+    ),
+    (
+        RunFault::Grid(GridFault::BadHeight(16_777_215)),
+        b"relief: 7 BadHeight 16777215\n",
+    ),
+    (
+        RunFault::Tiling(TilingFault::TooManyTiles),
+        b"relief: 22 TooManyTiles\n",
+    ),
+    (RunFault::Jobs(JobFault::NoThread), b"relief: 32 NoThread\n"),
+    (
+        RunFault::Sight(SightFault::BadEye(None)),
+        b"relief: 44 BadEye\n",
+    ),
+    (
+        RunFault::Sight(SightFault::BadEye(Some(7))),
+        b"relief: 44 BadEye 7\n",
+    ),
+    (
+        RunFault::Sinks(SinkFault::OnNodata(1)),
+        b"relief: 47 SinkOnNodata 1\n",
+    ),
+    (
+        RunFault::Gauges(GaugeFault::OnNodata(1)),
+        b"relief: 62 GaugeOnNodata 1\n",
+    ),
+    (
+        RunFault::Gauges(GaugeFault::TooManyGauges),
+        b"relief: 63 TooManyGauges\n",
+    ),
+    (RunFault::Read, b"relief: 51 Read\n"),
+];
+
 #[test]
-fn fault_lines(rt: HostRuntime) -> Result<(), Fail> {
-    for (fault, line) in [
-        (
-            RunFault::Grid(GridFault::UnknownKey),
-            b"relief: 1 UnknownKey\n".as_slice(),
-        ),
-        (
-            RunFault::Grid(GridFault::RepeatedKey(Key::Xll)),
-            b"relief: 2 RepeatedKey xll\n".as_slice(),
-        ),
-        (
-            RunFault::Grid(GridFault::BadHeight(16_777_215)),
-            b"relief: 7 BadHeight 16777215\n".as_slice(),
-        ),
-        (
-            RunFault::Tiling(TilingFault::TooManyTiles),
-            b"relief: 22 TooManyTiles\n".as_slice(),
-        ),
-        (
-            RunFault::Jobs(JobFault::NoThread),
-            b"relief: 32 NoThread\n".as_slice(),
-        ),
-        (
-            RunFault::Sight(SightFault::BadEye(None)),
-            b"relief: 44 BadEye\n".as_slice(),
-        ),
-        (
-            RunFault::Sight(SightFault::BadEye(Some(7))),
-            b"relief: 44 BadEye 7\n".as_slice(),
-        ),
-        (
-            RunFault::Sinks(SinkFault::OnNodata(1)),
-            b"relief: 47 SinkOnNodata 1\n".as_slice(),
-        ),
-        (
-            RunFault::Gauges(GaugeFault::OnNodata(1)),
-            b"relief: 62 GaugeOnNodata 1\n".as_slice(),
-        ),
-        (
-            RunFault::Gauges(GaugeFault::TooManyGauges),
-            b"relief: 63 TooManyGauges\n".as_slice(),
-        ),
-        (RunFault::Read, b"relief: 51 Read\n".as_slice()),
-    ] {
+fn fault_lines(rt: HostRuntime) {
+    for (fault, line) in FAULT_LINES {
         let mut out = Vec::new(rt.alloc());
         let mut writer = Counted::new(&mut out);
         let outcome: Result<(), WriteFailed> = tell(&fault, &mut writer);
@@ -251,7 +254,6 @@ fn fault_lines(rt: HostRuntime) -> Result<(), Fail> {
         drop(writer);
         assert_eq!(rt; out.as_slice(), line);
     }
-    Ok(())
 }
 
 #[test]
@@ -323,18 +325,37 @@ impl Progress for Tally {
     }
 }
 
+impl Tally {
+    fn new() -> Tally {
+        Tally {
+            stages: AtomicU64::new(0),
+            due_jobs: AtomicU64::new(0),
+            jobs: AtomicU64::new(0),
+            job_numbers: AtomicU64::new(0),
+            parts: AtomicU64::new(0),
+            due_parts: AtomicU64::new(0),
+            early: AtomicU64::new(0),
+            ends: AtomicU64::new(0),
+        }
+    }
+
+    /// Returns all counts but `early`, in the order of the fields.
+    fn counts(&self) -> [u64; 7] {
+        [
+            self.stages.load(Ordering::SeqCst),
+            self.due_jobs.load(Ordering::SeqCst),
+            self.jobs.load(Ordering::SeqCst),
+            self.job_numbers.load(Ordering::SeqCst),
+            self.parts.load(Ordering::SeqCst),
+            self.due_parts.load(Ordering::SeqCst),
+            self.ends.load(Ordering::SeqCst),
+        ]
+    }
+}
+
 /// Runs the program on the bowl, and returns its gate with the counts of its calls.
 fn reported<R: Threads + Wait + Sync>(rt: &R, alloc: Global, words: &[&str]) -> Tally {
-    let tally = Tally {
-        stages: AtomicU64::new(0),
-        due_jobs: AtomicU64::new(0),
-        jobs: AtomicU64::new(0),
-        job_numbers: AtomicU64::new(0),
-        parts: AtomicU64::new(0),
-        due_parts: AtomicU64::new(0),
-        early: AtomicU64::new(0),
-        ends: AtomicU64::new(0),
-    };
+    let tally = Tally::new();
     let mut out = Vec::new(alloc);
     let mut errors = Vec::new(alloc);
     let mut reader = Counted::new(BOWL);
@@ -367,13 +388,7 @@ fn progress_of_a_view(rt: HostRuntime) {
             "2,2,0",
         ];
         let tally = reported(&rt, rt.alloc(), words.as_slice());
-        assert_eq!(rt; tally.stages.load(Ordering::SeqCst), 2);
-        assert_eq!(rt; tally.due_jobs.load(Ordering::SeqCst), 8);
-        assert_eq!(rt; tally.jobs.load(Ordering::SeqCst), 8);
-        assert_eq!(rt; tally.job_numbers.load(Ordering::SeqCst), 12);
-        assert_eq!(rt; tally.parts.load(Ordering::SeqCst), 12);
-        assert_eq!(rt; tally.due_parts.load(Ordering::SeqCst), 36);
-        assert_eq!(rt; tally.ends.load(Ordering::SeqCst), 1);
+        assert_eq!(rt; tally.counts(), [2, 8, 8, 12, 12, 36, 1]);
         if workers == "--workers=1" {
             assert_eq!(rt; tally.early.load(Ordering::SeqCst), 0);
         }
@@ -383,14 +398,10 @@ fn progress_of_a_view(rt: HostRuntime) {
 /// A run refused before its first stage calls `finish` alone, one without `--progress` nothing.
 #[test]
 fn progress_where_asked_for(rt: HostRuntime) {
-    let alloc = rt.alloc();
     let refused = ["relief", "view", "--tile=2", "--progress", "3,0,0"];
-    let tally = reported(&rt, alloc, refused.as_slice());
-    assert_eq!(rt; tally.stages.load(Ordering::SeqCst), 0);
-    assert_eq!(rt; tally.ends.load(Ordering::SeqCst), 1);
+    let tally = reported(&rt, rt.alloc(), refused.as_slice());
+    assert_eq!(rt; tally.counts(), [0, 0, 0, 0, 0, 0, 1]);
     let silent = ["relief", "view", "--tile=2", "0,0,0"];
-    let tally = reported(&rt, alloc, silent.as_slice());
-    assert_eq!(rt; tally.stages.load(Ordering::SeqCst), 0);
-    assert_eq!(rt; tally.jobs.load(Ordering::SeqCst), 0);
-    assert_eq!(rt; tally.ends.load(Ordering::SeqCst), 0);
+    let tally = reported(&rt, rt.alloc(), silent.as_slice());
+    assert_eq!(rt; tally.counts(), [0; 7]);
 }
