@@ -13,8 +13,8 @@ use Rattle.flow.specs.TileLinks.{where_data}
 use Rattle.flow.specs.Whole.{is_outlet_code}
 use Rattle.flow.specs.RimGraph.{AreFlowsOf, Outlets, AreOutlets, listed_outlet}
 
--- How many cells a grid has, and by row-order index the number of each cell where a flow path may
--- end.
+-- How many cells a grid or a tile has, or how many nodes there are, and by index the number of each
+-- where a path may end.
 pub record EndNumbers : Type 0 where
   pub cells : ℕ
   pub number : ℕ → ℕ
@@ -63,7 +63,7 @@ pub record IsNumberedPlace (outlets : Outlets) (flows : List Flow) (n : EndNumbe
       (λ q. index_of outlets.cutting.cols q < n.cells)
   pub few : number_at outlets.cutting.cols n (listed_outlet outlets flows p) < uncounted
 
--- A flow has at most 2^24 cells, each with a code or none, and a numbered place (`IsNumberedPlace`).
+-- A flow has at most 2^24 cells, each with an entry in the codes, at numbered places.
 pub record AreNumberedCells (outlets : Outlets) (flows : List Flow) (n : EndNumbers) (f : Flow) :
     Type 0 where
   pub small : length f.exits ≤ 2 ^ 24

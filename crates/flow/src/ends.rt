@@ -50,7 +50,8 @@ impl EndNumbering for OwnNumbers {
 pub(crate) struct Paths<'a, L: Links, N: EndNumbering> {
     pub(crate) links: &'a L,
     pub(crate) numbers: &'a N,
-    ghost sound: { HaveNumbers (L.list links.now) (N.numbers numbers.now) } by { Prim.hlevel props },
+    ghost sound: { HaveNumbers (L.list links.now)
+        (N.numbers numbers.now) } by { Prim.hlevel props },
 }
 
 impl<'a, L: Links, N: EndNumbering> Paths<'a, L, N> {

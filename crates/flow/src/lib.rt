@@ -10,7 +10,7 @@
 //! - `catchment`: `catchments`
 //! - `gauges`: faults and numbers of gauges
 //! - `numbering`: numbers cells by the ends of their flow paths
-//! - `end_numbers`: the trait for numbers of cells where flow paths end
+//! - `end_numbers`: the trait for numbers of nodes where paths end
 //! - `flowing`: the flows of all tiles
 //! - `tile`: the flow of one tile
 //! - `tile_exits`: the exits of one tile, without counts
@@ -19,7 +19,7 @@
 //! - `tile_links`: links of a tile's cells, one byte each
 //! - `nodes`: the trait for links of nodes
 //! - `streams`: weights summed along links
-//! - `ends`: where paths along links end
+//! - `ends`: where paths along links end, and the numbers found there
 //! - `rim`: rim cells and where their paths along links end
 //! - `rim_graph`: the graph of exits into other tiles
 //! - `inflows`: how many cells' flow paths enter each rim cell from another tile
