@@ -1,5 +1,5 @@
 //! Tests writing of grids and maps: their bytes, and devices that fail or are interrupted.
-ghost use Rattle.std.specs.Prelude.{◌≡◌, ◌*◌, ◌≤◌};
+ghost use Rattle.std.specs.Prelude.{◌≡◌, ◌*◌, ◌≤◌, length};
 
 use crate::texts::{LENIENT, LENIENT_CELLS, PIT, PIT_CELLS, grid_of};
 use ascii_grid::{Count, Counted, Grid, Height, Place, WriteFailed, write_counts, write_heights};
@@ -166,16 +166,23 @@ fn lenient_text(rt: HostRuntime) {
     }
 }
 
+/// Asserts that the counts are written as `text`.
+fn writes_counts(rt: &impl Abort, alloc: Global, grid: &Grid, counts: &[Count], text: &[u8])
+    requires { length counts.now ≡ grid.now.terrain.cols * grid.now.terrain.rows }
+{
+    let mut taker = Taker::new(alloc, ALL, ALL);
+    let mut out = Counted::new(&mut taker);
+    assert_eq!(rt; write_counts(grid, counts, &mut out), Ok(()));
+    assert_eq!(rt; out.failures(), 0);
+    assert_eq!(rt; taker.taken.as_slice(), text);
+}
+
 /// Counts have -9999 for NODATA, whatever the grid's own NODATA word.
 #[test]
 fn lenient_flow(rt: HostRuntime) {
     let grid = lenient_grid(&rt, rt.alloc());
-    let mut taker = Taker::new(rt.alloc(), ALL, ALL);
-    let mut out = Counted::new(&mut taker);
     let codes = [Count::of(1), Count::of(0), Count::none(), Count::of(64)];
-    assert_eq!(rt; write_counts(&grid, &codes, &mut out), Ok(()));
-    assert_eq!(rt; out.failures(), 0);
-    assert_eq!(rt; taker.taken.as_slice(), LENIENT_FLOW);
+    writes_counts(&rt, rt.alloc(), &grid, &codes, LENIENT_FLOW);
 }
 
 #[test]
@@ -184,12 +191,8 @@ fn header_in_any_order(rt: HostRuntime) {
     writes(&rt, &grid, Taker::new(rt.alloc(), ALL, ALL), MIXED_WRITTEN);
     assert!(rt; grid.cols() == 2);
     assert!(rt; grid.rows() == 1);
-    let mut taker = Taker::new(rt.alloc(), ALL, ALL);
-    let mut out = Counted::new(&mut taker);
     let counts = [Count::of(12), Count::none()];
-    assert_eq!(rt; write_counts(&grid, &counts, &mut out), Ok(()));
-    assert_eq!(rt; out.failures(), 0);
-    assert_eq!(rt; taker.taken.as_slice(), MIXED_COUNTS);
+    writes_counts(&rt, rt.alloc(), &grid, &counts, MIXED_COUNTS);
 }
 
 #[test]
