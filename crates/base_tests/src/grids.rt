@@ -95,25 +95,39 @@ fn expect_anchor(rt: &impl Abort, anchor: &Anchor, centre: bool, text: &[u8]) {
     expect_word(rt, &anchor.word, text);
 }
 
+/// Asserts the words of the grid's header. `centre` is whether the first names a cell's centre; the
+/// second names a corner.
+fn expect_frame(rt: &impl Abort, grid: &Grid, centre: bool, words: &[&[u8]; 4]) {
+    let frame = grid.frame();
+    expect_anchor(rt, frame.xll(), centre, words[0]);
+    expect_anchor(rt, frame.yll(), false, words[1]);
+    expect_word(rt, frame.cellsize(), words[2]);
+    expect_word(rt, frame.nodata(), words[3]);
+}
+
+/// The header words of [`bowl`].
+const BOWL_WORDS: [&[u8]; 4] = [b"100.5", b"-2E1", b"30.0", b"-9999"];
+
 #[test]
 fn parts_of_a_grid(rt: HostRuntime) {
     let grid = bowl(&rt, rt.alloc());
     assert_eq!(rt; grid.scale(), 1);
-    expect_anchor(&rt, grid.frame().xll(), true, b"100.5");
-    expect_anchor(&rt, grid.frame().yll(), false, b"-2E1");
-    expect_word(&rt, grid.frame().cellsize(), b"30.0");
-    expect_word(&rt, grid.frame().nodata(), b"-9999");
+    expect_frame(&rt, &grid, true, &BOWL_WORDS);
 }
 
 #[test]
 fn cells_by_place(rt: HostRuntime) {
     let grid = bowl(&rt, rt.alloc());
-    assert_eq!(rt; grid.at(NORTH_EAST), Some(5));
-    assert_eq!(rt; grid.at(MIDDLE), Some(-1));
-    assert_eq!(rt; grid.at(SOUTH_EAST), None);
-    assert!(rt; is_edge(&rt, &grid, Place { row: 0, col: 1 }));
-    assert!(rt; is_edge(&rt, &grid, MIDDLE));
-    assert!(rt; !is_edge(&rt, &grid, SOUTH_EAST));
+    let middle = grid.at(MIDDLE);
+    let corners = (grid.at(NORTH_EAST), grid.at(SOUTH_EAST));
+    assert_eq!(rt; (middle, corners), (Some(-1), (Some(5), None)));
+    for (place, edge) in [
+        (Place { row: 0, col: 1 }, true),
+        (MIDDLE, true),
+        (SOUTH_EAST, false),
+    ] {
+        assert_eq!(rt; is_edge(&rt, &grid, place), edge, "{place:?}");
+    }
 }
 
 #[test]
@@ -123,8 +137,7 @@ fn other_cells(rt: HostRuntime) {
     expect_cells(&rt, other.cells(), &FILLED);
     assert_eq!(rt; other.cols(), 3);
     assert_eq!(rt; other.scale(), 1);
-    expect_anchor(&rt, other.frame().xll(), true, b"100.5");
-    expect_word(&rt, other.frame().nodata(), b"-9999");
+    expect_frame(&rt, &other, true, &BOWL_WORDS);
     assert_eq!(rt; grid.at(MIDDLE), Some(-1));
 }
 
@@ -134,15 +147,10 @@ fn nine_nines(rt: HostRuntime) -> Result<(), NoMemory> {
     let pit = grid_of(&rt, rt.alloc(), 0, PIT, &PIT_CELLS);
     assert!(rt; pit.cols() == 3);
     assert!(rt; pit.rows() == 3);
-    let nine = Cell::of(9);
-    let cells = [nine, nine, nine, nine, nine, nine, nine, nine, nine];
-    let nines = pit.with_cells(rt.alloc(), &cells)?;
+    let nines = pit.with_cells(rt.alloc(), &[Cell::of(9); 9])?;
     expect_cells(&rt, nines.cells(), &[Some(9); 9]);
     assert_eq!(rt; (nines.cols(), nines.rows(), nines.scale()), (3, 3, 0));
-    expect_anchor(&rt, nines.frame().xll(), false, b"0");
-    expect_anchor(&rt, nines.frame().yll(), false, b"0");
-    expect_word(&rt, nines.frame().cellsize(), b"1");
-    expect_word(&rt, nines.frame().nodata(), b"-9999");
+    expect_frame(&rt, &nines, false, &[b"0", b"0", b"1", b"-9999"]);
     expect_sinks(&rt, &nines, &[]);
     Ok(())
 }
