@@ -53,14 +53,14 @@ impl LabelSets {
         node
     }
 
-    /// Returns `true` only if two nodes are in one set; mostly so, if they are.
+    /// Returns a lower node of a node's set, mostly the lowest, or the node itself.
     #[inline(always)]
-    pub fn have_met(&self, one: u32, other: u32) -> bool {
-        self.parent(one) == self.parent(other)
+    pub fn set_of(&self, node: u32) -> u32 {
+        self.parent(node)
     }
 
     /// Unites the sets of two nodes. Returns whether they were two sets.
-    /// Both nodes then lead straight to the lowest, so [`have_met`](Self::have_met) sees it.
+    /// Both nodes then lead straight to the lowest, so [`set_of`](Self::set_of) is one for them.
     pub fn unite(&mut self, one: u32, other: u32) -> bool {
         let (first, second) = (self.first(one), self.first(other));
         let lowest = first.min(second);

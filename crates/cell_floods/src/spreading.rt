@@ -144,9 +144,10 @@ impl<'a> Spreading<'a> {
     }
 
     /// Labels node `to` from a node of this label and level, if it is an unlabelled data cell.
-    /// Opens it where its level is that of the other node. Two labels meet if it has another one.
+    /// Opens it where its level is that of the other node. If it has another label, that one meets
+    /// `label`, unless the sets tell that they have met: `set` is that of `label`.
     #[inline(always)]
-    fn reach(&mut self, to: u32, label: u32, level: Cell) -> Result<(), AllocError>
+    fn reach(&mut self, to: u32, label: u32, set: u32, level: Cell) -> Result<(), AllocError>
         requires to { to < length self.old.net.now.cells }
         requires sizes { (now : ℤ) × IsPartFlood now self.old }
         requires level { IsSome level }
@@ -158,7 +159,7 @@ impl<'a> Spreading<'a> {
             return Ok(());
         }
         if own != NO_LABEL {
-            if self.sets.have_met(label, own) {
+            if self.sets.set_of(own) == set {
                 return Ok(());
             }
             return self.meet(to, label, level);
@@ -184,8 +185,9 @@ impl<'a> Spreading<'a> {
     {
         let level = self.levels[node as usize];
         let label = self.labels[node as usize];
+        let set = self.sets.set_of(label);
         for to in self.net.around(node) {
-            self.reach(to, label, level)?;
+            self.reach(to, label, set, level)?;
         }
         self.has_spread[node as usize] = true;
         Ok(())
