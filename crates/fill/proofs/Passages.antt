@@ -78,7 +78,8 @@ module _ (t : Terrain) (c : Cutting) (floods : List Flood) (are : AreFloods t c 
     where
       has_data : (r : Place) (n : CellLabel) → cell_label_among c floods r ≡ Some n → IsDataCell t r
       has_data r n is = level_has_data t c floods are.lawful are r n.level
-          (labelled_within c floods r n are.lawful (fit_of t c floods are) is) (numbered c floods r n lawful is).level_is
+          (labelled_within c floods r n are.lawful (fit_of t c floods are) is)
+          (numbered c floods r n lawful is).level_is
 
       meeting : (p q : Place) (j : Join) → Meets (cell_label_among c floods) p q j → IsPassage t places j
       meeting p q j meets =
@@ -158,7 +159,8 @@ module _ (t : Terrain) (c : Cutting) (floods : List Flood) (are : AreFloods t c 
         | inr past ↦
             let further = end_leaves rest (λ g there. each g (cons_tail f rest g there)) (a - length f.ends) h
             (sym (get_or-append_right f.ends (ends_of rest) (length f.ends) a None refl past) ∙ some) in
-            at a (a - length f.ends) h _ _ (get_or-append_right f.table.places (places_of rest) (length f.ends) a None (sym own.size) past) further
+            at a (a - length f.ends) h _ _
+            (get_or-append_right f.table.places (places_of rest) (length f.ends) a None (sym own.size) past) further
       ]
     where
       label_at : (f : Flood) → AreEndHeights t f.table.places f.ends → (k : ℕ) (h : ℤ) →
@@ -176,7 +178,7 @@ module _ (t : Terrain) (c : Cutting) (floods : List Flood) (are : AreFloods t c 
 
   pub ends_leave : (ends : List (Option ℤ)) → ends ≡ ends_of floods → AreCrests t places ends
   ends_leave ends is a h some = end_leaves floods
-      (λ f there. (are.each there.0 f (slice_get_read floods (length floods) there.0 f refl there.1 (sym there.2))).ends)
+      (λ f at. (are.each at.0 f (slice_get_read floods (length floods) at.0 f refl at.1 (sym at.2))).ends)
       a h (sym (ap (λ (z : List (Option ℤ)). get_or z a None) is) ∙ some)
 
   -- A number without a place has no crest.

@@ -45,7 +45,8 @@ abbrev pub numbered : ℕ → Meeting → Join
 numbered first m = record { from = first + m.from; to = first + m.to; height = m.level }
 
 -- `meetings` has, for each tile, meetings of the labels of its flood.
-pub record AreMet (t : Terrain) (floods : List Flood) (meetings : List (Vec Meeting Global)) : Type 0 where
+pub record AreMet (t : Terrain) (floods : List Flood)
+    (meetings : List (Vec Meeting Global)) : Type 0 where
   pub count : length meetings ≡ length floods
   pub each : (tile : ℕ) (f : Flood) (met : Vec Meeting Global) → slice_get floods tile ≡ Some f →
       slice_get meetings tile ≡ Some met → All (IsMeeting t f) met.items

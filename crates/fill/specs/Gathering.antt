@@ -1,5 +1,5 @@
--- The joins of a spill graph, as collected from the floods of the tiles. A tile's flood has the level
--- and the label of each data cell, and a table that lists the tile's labels.
+-- The joins of a spill graph, as collected from the floods of the tiles. A tile's flood has the
+-- level and the label of each data cell, and a table that lists the tile's labels.
 -- Public.
 use Rattle.std.specs.Prelude.{◌≡◌, ◌≢◌, ℕ, ◌+◌, ◌-◌, ◌*◌, ◌/◌, ◌%◌, ◌<◌, ◌≤◌, ◌⊎◌, ◌==◌, ◌&&◌, true, false, if◌then◌else◌, is_some, Bool, ℤ, ◌≤ℤ◌, List, [], ◌∷◌, length, Option, None, Some, slice_get, slice_index_or, option_and_then, Vec}
 use Rattle.std.specs.declared.alloc.Global.{Global}

@@ -34,4 +34,5 @@ AreHeldTiles cols cells tiles = (i : ℕ) → IsInTiles tiles i → IsHeld cols 
 -- The cells at these places are as they were read.
 abbrev pub AreAsRead : ℕ → List (Option ℤ) → List (Option ℤ) → List Place → Type 0
 AreAsRead cols read cells places =
-    All (λ p. slice_index_or cells (index_of cols p) None ≡ slice_index_or read (index_of cols p) None) places
+    All (λ p. slice_index_or cells (index_of cols p) None
+    ≡ slice_index_or read (index_of cols p) None) places

@@ -26,7 +26,8 @@ raised_among c floods levels p =
 
 -- The tile has the levels and label indexes of this flood, and the crests of its labels. Labels are
 -- numbered through the tables of all tiles; this table begins at number `first`.
-pub record IsRaisedTile (first : ℕ) (f : Flood) (crests : List (Option ℤ)) (x : RaisedTile) : Type 0 where
+pub record IsRaisedTile (first : ℕ) (f : Flood) (crests : List (Option ℤ))
+    (x : RaisedTile) : Type 0 where
   pub lawful : IsFlood f
   pub heights : f.levels ≡ levels_where f.labels x.heights.now
   pub size : length x.heights.now ≡ length f.labels

@@ -56,8 +56,8 @@ impl Search {
     fn give_crest(&mut self, label: u32, crest: Height)
         ensures size { length self.new.crests.items ≡ length self.old.crests.items }
         ensures next { self.new.next.items ≡ self.old.next.items }
-        ensures crests { (t : Terrain) (places : List (Option Place)) → Leaves t places label crest →
-            AreRings t places crest self.old.next.items →
+        ensures crests { (t : Terrain) (places : List (Option Place)) →
+            Leaves t places label crest → AreRings t places crest self.old.next.items →
             AreCrests t places self.old.crests.items → AreCrests t places self.new.crests.items }
     {
         let mut at = label as usize;

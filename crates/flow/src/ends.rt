@@ -1,6 +1,7 @@
 //! Finds the numbers of the nodes where nodes' paths along links end: [`Paths`].
 //!
-//! A path ends at a node that is linked to itself. The loops have labels, by which proofs name them.
+//! A path ends at a node that is linked to itself. The loops have labels, by which proofs name
+//! them.
 ghost use Rattle.std.proofs.Props.{props};
 ghost use Rattle.std.specs.Prelude.{◌≡◌, ◌^◌, ◌<◌, ◌≤◌, ℕ, length, true, IfOk};
 ghost use Rattle.terrain.specs.StoredCells.{uncounted};

@@ -29,9 +29,11 @@ loop-join-preserved c =
     rw (to_z-of_z height_width c.max-level.result fits) (record {
       size = c.take.ensures.size ∙ i.size;
       rings = λ t places all.
-          (rw (to_z-of_z height_width c.max-level.result fits) at c.take.ensures.rings) t places (all c.loop-join.join-index _ c.loop-join-test.true) (above t places all);
+          (rw (to_z-of_z height_width c.max-level.result fits) at c.take.ensures.rings) t places
+          (all c.loop-join.join-index _ c.loop-join-test.true) (above t places all);
       crests = λ t places all start.
-          (rw (to_z-of_z height_width c.max-level.result fits) at c.take.ensures.crests) t places (all c.loop-join.join-index _ c.loop-join-test.true) (above t places all)
+          (rw (to_z-of_z height_width c.max-level.result fits) at c.take.ensures.crests) t places
+          (all c.loop-join.join-index _ c.loop-join-test.true) (above t places all)
           (i.crests t places all start);
     })
 

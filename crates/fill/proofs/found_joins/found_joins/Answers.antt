@@ -28,7 +28,8 @@ push_meetings-requires c =
     (numbers.few tile f.0 f.1))
 
 pub loop-tile-init : goal.loop-tile-init
-loop-tile-init c t are met = rw c.new-joins.ensures.items (All-nil (IsPassage t (places_of c.args.tiles.now.floods.now)))
+loop-tile-init c t are met =
+    rw c.new-joins.ensures.items (All-nil (IsPassage t (places_of c.args.tiles.now.floods.now)))
 
 pub loop-tile-preserved : goal.loop-tile-preserved
 loop-tile-preserved c t are met =

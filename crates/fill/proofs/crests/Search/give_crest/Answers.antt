@@ -27,7 +27,8 @@ loop-preserved c =
       size = length-set c.loop.self.crests.items c.loop.at c.of.result ∙ c.loop.invariant.size;
       next = c.loop.invariant.next;
       sound = λ t places leaves rings all.
-          let i = (rw (to_z-of_z height_width c.args.crest fits) at c.loop.invariant.sound) t places leaves rings all in (
+          let sound = rw (to_z-of_z height_width c.args.crest fits) at c.loop.invariant.sound in
+          let i = sound t places leaves rings all in (
             rw (c.of.ensures.stored, to_z-of_z height_width c.args.crest fits)
                 (given_crest t places c.loop.self.crests.items c.loop.at c.args.crest i.1 i.0),
             subst (λ n. Leaves t places n c.args.crest) (sym after)
