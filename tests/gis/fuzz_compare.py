@@ -10,7 +10,7 @@ import judge_scene
 COUNTS = ("accumulate", "basins", "catchments", "view")
 TYPES = {"flow": ("Byte", 255), "streams": ("Byte", 255), "area": ("Float64", -9999),
          **dict.fromkeys(COUNTS, ("Int32", -9999))}
-GAUGE = re.compile(r"relief-gis: (\d+), .*: ([\d,]+) cells drain to it first"
+GAUGE = re.compile(r"relief-gis: (\d+), .*: ([\d,]+) cells? drains? to it first"
                    r"(?:, ([\d,]+) of them where the data ends)?$")
 UNCERTAIN = re.compile(r"relief-gis: ([\d,]+) cells? lies? where the data ends or downstream of it")
 ROUNDED = re.compile(r"rounded.* by at most ([-+.e\d]+)")

@@ -111,8 +111,8 @@ class Basins(Streams):
             self.assertEqual({cell: int(found[cell]) for cell in wanted}, wanted)
             self.assertEqual(int((found == NODATA).sum()), found.size - len(wanted))
             small = [size for size in sizes.values() if size < least]
-            self.assertIn(f"{len(sizes) - len(small):,} basins have at least {least:,} cells; {len(small):,} smaller "
-                          f"ones are 0, with {sum(small):,} cells", lines)
+            self.assertRegex(lines, fr"\b{len(sizes) - len(small):,} basins? ha(ve|s) at least {least:,} cells?; "
+                             fr"{len(small):,} smaller ones? (are|is) 0, with {sum(small):,} cells?\b")
             self.assertEqual(nodata_of(self.folder / "out.tif"), NODATA)
 
 
