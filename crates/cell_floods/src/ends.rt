@@ -13,6 +13,7 @@ ghost use Rattle.cell_floods.specs.Cells.{HasSinks};
 ghost use Rattle.cell_floods.specs.TileFlood.{AreEndHeights, IsEndHeight};
 
 use crate::cell_net::have_data;
+use crate::labels::Labels;
 use crate::sinks::{is_sink, node_in};
 use std::alloc::{AllocError, Global};
 use terrain::{Cell, Place};
@@ -76,22 +77,22 @@ fn end_height(view: &TileView<'_, Cell>, sinks: &[bool], label: Option<Place>) -
     }
 }
 
-/// Returns, for each entry of `places`, its height if it is an end cell, else no data.
+/// Returns, for each entry of the table of labels, its height if it is an end cell, else no data.
 pub(crate) fn end_heights(
     alloc: Global,
     view: &TileView<'_, Cell>,
     sinks: &[bool],
-    places: &[Option<Place>],
+    labels: &Labels,
 ) -> Result<Vec<Cell>, AllocError>
     requires { All (λ label. IfSome label (IsInBounds (bounds_of view.now.cutting view.now.tile)))
-        places.now }
+        labels.now.places }
     ensures { IfOk result (λ v. (named : List Place)
         → HasSinks (bounds_of view.now.cutting view.now.tile) named sinks.now
-        → AreEndHeights (with_sinks (terrain_of view.now) named) places.now v.items) }
+        → AreEndHeights (with_sinks (terrain_of view.now) named) labels.now.places v.items) }
 {
-    let mut heights = Vec::with_capacity(alloc, places.len())?;
-    for place in places {
-        heights.push(end_height(view, sinks, *place))?;
+    let mut heights = Vec::with_capacity(alloc, labels.count())?;
+    for index in 0..labels.count() {
+        heights.push(end_height(view, sinks, labels.place(index)))?;
     }
     Ok(heights)
 }

@@ -1,9 +1,9 @@
 //! The labels of a tile's cells: a table of places, and for each cell an index into the table.
-ghost use Rattle.std.specs.Prelude.{◌≡◌, ◌+◌, ◌*◌, ◌^◌, ◌<◌, ◌≤◌, ◌∷◌, [], None, map, length, is_some, slice_index_or, All, IfOk, IfSome, OnOk};
+ghost use Rattle.std.specs.Prelude.{◌≡◌, ◌+◌, ◌*◌, ◌^◌, ◌<◌, ◌≤◌, ◌∷◌, ◌++◌, [], None, Some, map, length, is_some, slice_index_or, All, IfOk, IfSome, OnOk};
 ghost use Rattle.tiles.specs.Cutting.{IsWithinLimits};
 ghost use Rattle.cell_floods.specs.Cells.{place_of_node};
-ghost use Rattle.floods.specs.Notes.{numbered_labels};
-ghost use Rattle.cell_floods.specs.Indexes.{indexes_stored};
+ghost use Rattle.floods.specs.Notes.{no_label, numbered_labels};
+ghost use Rattle.cell_floods.specs.Indexes.{indexes_stored, places_of};
 ghost use Rattle.cell_floods.specs.Labels.{IsTable, AreMet, AreNodesBelow, IsIndexed, IsIndexedOf, IsListedAt, label_of_node, labels_by};
 
 use crate::tile::Meeting;
@@ -26,12 +26,21 @@ pub(crate) enum Indexes {
     Long(Vec<u32>),
 }
 
+/// The labels of a tile by their indexes: first `None`, then places.
+#[derive(Drop)]
+struct Table {
+    bounds: Bounds,
+    /// Numbers that [`label_of`] decodes to nodes of the tile's net: 4 bytes where a place takes 8.
+    numbers: Vec<u32>,
+}
+
 /// The labels of a tile's cells: a table of places, and each cell's index into it.
 #[derive(Drop)]
 pub struct Labels {
-    places: Vec<Option<Place>>,
+    table: Table,
     indexes: Indexes,
-    ghost table: { IsTable places.items (indexes_stored indexes) },
+    ghost limits: { IsWithinLimits table.bounds },
+    ghost fits: { IsTable (places_of table) (indexes_stored indexes) },
 }
 
 /// The labels of a tile's cells, and the index in their table for each node of the tile's net.
@@ -42,23 +51,84 @@ pub(crate) struct IndexedLabels {
     pub(crate) met: Vec<u32>,
 }
 
+/// Returns the place of a node of the tile's net.
+#[inline(always)]
+fn place_of(bounds: Bounds, node: u32) -> Place
+    requires { (bounds.top ≤ 4096) × (bounds.left ≤ 4096) × (bounds.cols ≤ 4096) }
+    ensures { result ≡ place_of_node bounds.top bounds.left bounds.cols node }
+{
+    let stride = bounds.cols + 2;
+    // No label is a border node, so nothing saturates. A plain difference needs a proof of that.
+    Place {
+        row: (bounds.top + node / stride).saturating_sub(1),
+        col: (bounds.left + node % stride).saturating_sub(1),
+    }
+}
+
+impl Table {
+    /// Makes a table without labels, with capacity for one at each rim cell.
+    fn without_labels(alloc: Global, bounds: Bounds) -> Result<Self, AllocError>
+        requires { IsWithinLimits bounds }
+        ensures bounds { IfOk result (λ t. t.bounds ≡ bounds) }
+        ensures places { IfOk result (λ t. places_of t ≡ None ∷ []) }
+    {
+        let lines = bounds.rows as usize + bounds.cols as usize;
+        let mut numbers = Vec::with_capacity(alloc, 2 * lines)?;
+        numbers.push(u32::MAX)?;
+        Ok(Table { bounds, numbers })
+    }
+
+    /// Returns the label at an index; `None` for the first entry.
+    #[inline(always)]
+    fn place(&self, index: usize) -> Option<Place>
+        requires limits { IsWithinLimits self.now.bounds }
+        requires index { index < length (places_of self.now) }
+        ensures { result ≡ slice_index_or (places_of self.now) index None }
+    {
+        let node = label_of(self.numbers[index])?;
+        Some(place_of(self.bounds, node))
+    }
+
+    /// Adds a label, given by its node.
+    #[inline(always)]
+    fn push(&mut self, node: u32) -> Result<(), AllocError>
+        requires { node < no_label }
+        ensures bounds { self.new.bounds ≡ self.old.bounds }
+        ensures places { OnOk result (places_of self.new
+            ≡ places_of self.old ++ label_of_node self.old.bounds (Some node) ∷ []) }
+    {
+        self.numbers.push(node)?;
+        Ok(())
+    }
+}
+
 impl Model for Labels {
     ghost use Rattle.cell_floods.specs.Labels.{LabelTable};
-    ghost use Rattle.cell_floods.specs.Indexes.{indexes_stored};
+    ghost use Rattle.cell_floods.specs.Indexes.{indexes_stored, places_of};
 
     ghost Value = { LabelTable };
 
-    ghost view = { λ l. record { places = l.places.items; indexes = indexes_stored l.indexes } };
+    ghost view = { λ l.
+        record { places = places_of l.table; indexes = indexes_stored l.indexes } };
 }
 
 impl Labels {
-    /// Returns the table: `None` for cells without a label, then the labels.
+    /// Returns how many entries the table has: `None` for cells without a label, then the labels.
     #[inline(always)]
-    pub fn places(&self) -> &[Option<Place>]
-        ensures value { result.now ≡ self.now.places }
+    pub fn count(&self) -> usize
+        ensures value { result ≡ length self.now.places }
         ensures table { IsTable self.now.places self.now.indexes }
     {
-        &self.places
+        self.table.numbers.len()
+    }
+
+    /// Returns the label at an index of the table; `None` for the first entry.
+    #[inline(always)]
+    pub fn place(&self, index: usize) -> Option<Place>
+        requires { index < length self.now.places }
+        ensures { result ≡ slice_index_or self.now.places index None }
+    {
+        self.table.place(index)
     }
 
     /// Returns the index in the table of the label of a cell, given by its index in row order.
@@ -81,7 +151,7 @@ impl Labels {
             ≡ is_some (slice_index_or (labels_by self.now.places self.now.indexes) index None) }
     {
         // The prover learns from a field that the table's first entry alone is `None`.
-        let _ = &self.places;
+        let _ = &self.table;
         self.index(index) != NO_LABEL
     }
 
@@ -91,42 +161,23 @@ impl Labels {
         requires { index < length self.now.indexes }
         ensures { result ≡ slice_index_or (labels_by self.now.places self.now.indexes) index None }
     {
-        self.places[self.index(index) as usize]
+        self.table.place(self.index(index) as usize)
     }
 }
 
-/// Returns the place of a node of the tile's net.
+/// Returns the index of a label in the table, 0 if `node` is `None`.
+/// A label that was not met before is added. `met` has the index for each node met before, and 0
+/// for other nodes.
 #[inline(always)]
-fn place_of(bounds: Bounds, node: u32) -> Place
-    requires { (bounds.top ≤ 4096) × (bounds.left ≤ 4096) × (bounds.cols ≤ 4096) }
-    ensures { result ≡ place_of_node bounds.top bounds.left bounds.cols node }
-{
-    let stride = bounds.cols + 2;
-    // No label is a border node, so nothing saturates. A plain difference needs a proof of that.
-    Place {
-        row: (bounds.top + node / stride).saturating_sub(1),
-        col: (bounds.left + node % stride).saturating_sub(1),
-    }
-}
-
-/// Returns the index in `places` of `node`'s place, 0 if `node` is `None`.
-/// The place of a node that was not met before is appended. `met` has the index for each node met
-/// before, and 0 for other nodes.
-#[inline(always)]
-fn index_of_label(
-    places: &mut Vec<Option<Place>>,
-    met: &mut [u32],
-    bounds: Bounds,
-    node: Option<u32>,
-) -> Result<u32, AllocError>
-    requires bounds { (bounds.top ≤ 4096) × (bounds.left ≤ 4096) × (bounds.cols ≤ 4096) }
-    requires few { length places.old.items < 2 ^ 32 }
-    requires node { IfSome node (λ a. a < length met.old) }
-    requires first { slice_index_or places.old.items 0 None ≡ None }
-    requires met { AreMet bounds met.old places.old.items }
-    ensures index { IfOk result (λ index.
-        IsListedAt index (label_of_node bounds node) places.old.items places.new.items) }
-    ensures met { OnOk result (AreMet bounds met.new places.new.items) }
+fn index_of_label(table: &mut Table, met: &mut [u32], node: Option<u32>) -> Result<u32, AllocError>
+    requires few { length (places_of table.old) < 2 ^ 32 }
+    requires node { IfSome node (λ a. (a < length met.old) × (a < no_label)) }
+    requires first { slice_index_or (places_of table.old) 0 None ≡ None }
+    requires met { AreMet table.old.bounds met.old (places_of table.old) }
+    ensures bounds { table.new.bounds ≡ table.old.bounds }
+    ensures index { IfOk result (λ index. IsListedAt index (label_of_node table.old.bounds node)
+        (places_of table.old) (places_of table.new)) }
+    ensures met { OnOk result (AreMet table.old.bounds met.new (places_of table.new)) }
 {
     let Some(node) = node else {
         return Ok(NO_LABEL);
@@ -135,21 +186,10 @@ fn index_of_label(
     if index != NO_LABEL {
         return Ok(index);
     }
-    let index = places.len() as u32;
-    places.push(Some(place_of(bounds, node)))?;
+    let index = table.numbers.len() as u32;
+    table.push(node)?;
     met[node as usize] = index;
     Ok(index)
-}
-
-/// Makes a table of `None` alone, with capacity for a label at each rim cell.
-fn empty_table(alloc: Global, bounds: Bounds) -> Result<Vec<Option<Place>>, AllocError>
-    requires { IsWithinLimits bounds }
-    ensures { IfOk result (λ v. v.items ≡ None ∷ []) }
-{
-    let lines = bounds.rows as usize + bounds.cols as usize;
-    let mut places = Vec::with_capacity(alloc, 2 * lines)?;
-    places.push(None)?;
-    Ok(places)
 }
 
 /// Returns indexes in 2 bytes each.
@@ -195,15 +235,15 @@ pub(crate) fn labels_of(
 {
     let count = (bounds.rows as usize + 2) * (bounds.cols as usize + 2);
     let mut met = vec![in alloc; NO_LABEL; count]?;
-    let mut places = empty_table(alloc, bounds)?;
+    let mut table = Table::without_labels(alloc, bounds)?;
     // Each index replaces a cell's node, which spares a list of 4 bytes a cell.
     let mut indexes = nodes;
     for index in indexes.iter_mut() {
-        *index = index_of_label(&mut places, &mut met, bounds, label_of(*index))?;
+        *index = index_of_label(&mut table, &mut met, label_of(*index))?;
     }
-    let indexes = stored_indexes(alloc, places.len(), indexes)?;
+    let indexes = stored_indexes(alloc, table.numbers.len(), indexes)?;
     Ok(IndexedLabels {
-        labels: Labels { places, indexes },
+        labels: Labels { table, indexes },
         met,
     })
 }

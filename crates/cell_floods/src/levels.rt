@@ -1,22 +1,22 @@
-//! The levels of a tile's cells, in 4 bytes each wherever they fit: [`Levels`].
-ghost use Rattle.std.specs.Prelude.{◌≡◌, ◌+◌, ◌*◌, ◌<◌, ◌≤◌, ◌++◌, pos, length, map, slice_index_or, IfOk, IfSome};
+//! The levels of a tile's cells, in 2 or 4 bytes each wherever they fit: [`Levels`].
+ghost use Rattle.std.specs.Prelude.{ℤ, ◌≡◌, ◌+◌, ◌*◌, ◌<◌, ◌≤◌, ◌++◌, pos, length, map, slice_index_or, IfOk, IfSome};
 ghost use Rattle.std.specs.Bool.{OnTrue};
 ghost use Rattle.floods.specs.Notes.{height_or_lack};
 ghost use Rattle.cell_floods.specs.Cells.{inner_rows};
-ghost use Rattle.cell_floods.specs.Levels.{height_above};
+ghost use Rattle.cell_floods.specs.Levels.{height_above, no_short};
+ghost use Rattle.floods.specs.Notes.{no_label};
 
 use crate::cell_net::{inner_row, without_border};
 use std::alloc::{AllocError, Global};
 use std::marker::Model;
 use terrain::{Cell, Height, NO_DATA};
 
-/// The number stored above the lowest level for a cell without a level.
-const NO_LEVEL: u32 = u32::MAX;
-
 /// Levels as they are stored; a cell without a level has a number too.
 #[derive(Drop)]
 pub(crate) enum StoredLevels {
-    /// Each level's height above the lowest, or [`NO_LEVEL`].
+    /// Each level's height above the lowest, in 2 bytes.
+    Near(Vec<u16>),
+    /// Each level's height above the lowest, in 4 bytes.
     Above(Vec<u32>),
     /// The levels, or [`NO_DATA`]. Only where one lies too far above the lowest.
     Whole(Vec<Height>),
@@ -38,27 +38,68 @@ impl Model for Levels {
     ghost view = { λ l. levels_stored l.lowest l.stored };
 }
 
-/// Returns the height that `above` stores.
-#[inline(always)]
-fn height_above(lowest: Height, above: u32) -> Height
-    ensures { result ≡ height_above lowest above }
-{
-    if above == NO_LEVEL {
-        NO_DATA
-    } else {
-        lowest.wrapping_add(above as Height)
+/// A number that stores a level by its height above the lowest. The greatest one stores no level.
+trait HeightAbove: Copy + Drop {
+    // The level that a number stores, by the lowest level.
+    ghost stored: { ℤ → Self → ℤ };
+
+    /// Returns the number that stores `level`, or any number if none stores it.
+    fn nearest(lowest: Height, level: Height) -> Self;
+
+    /// Returns the level that the number stores, [`NO_DATA`] for no level.
+    fn level(self, lowest: Height) -> Height
+        ensures { result ≡ stored lowest self };
+}
+
+impl HeightAbove for u16 {
+    ghost stored = { height_above no_short };
+
+    #[inline(always)]
+    fn nearest(lowest: Height, level: Height) -> u16 {
+        // No data is far above all heights, so its number is the greatest.
+        level.abs_diff(lowest).min(u16::MAX as u64) as u16
+    }
+
+    #[inline(always)]
+    fn level(self, lowest: Height) -> Height {
+        if self == u16::MAX {
+            NO_DATA
+        } else {
+            lowest.wrapping_add(self as Height)
+        }
     }
 }
 
-/// Adds the levels of a row, and returns `false` where one is not stored by 32 bits.
-fn push_row(above: &mut Vec<u32>, lowest: Height, row: &[Cell]) -> Result<bool, AllocError>
-    ensures { IfOk result (λ all. OnTrue all (map (height_above lowest) above.new.items
-        ≡ map (height_above lowest) above.old.items ++ map height_or_lack row.now)) }
+impl HeightAbove for u32 {
+    ghost stored = { height_above no_label };
+
+    #[inline(always)]
+    fn nearest(lowest: Height, level: Height) -> u32 {
+        level.abs_diff(lowest).min(u32::MAX as u64) as u32
+    }
+
+    #[inline(always)]
+    fn level(self, lowest: Height) -> Height {
+        if self == u32::MAX {
+            NO_DATA
+        } else {
+            lowest.wrapping_add(self as Height)
+        }
+    }
+}
+
+/// Adds the levels of a row, and returns `false` where no number stores one.
+fn push_row<N: HeightAbove>(
+    above: &mut Vec<N>,
+    lowest: Height,
+    row: &[Cell],
+) -> Result<bool, AllocError>
+    ensures { IfOk result (λ all. OnTrue all (map (N.stored lowest) above.new.items
+        ≡ map (N.stored lowest) above.old.items ++ map height_or_lack row.now)) }
 {
     for cell in row {
-        // No data is far above all heights, so its number is `NO_LEVEL`.
-        let number = cell.number().abs_diff(lowest).min(NO_LEVEL as u64) as u32;
-        if height_above(lowest, number) != cell.number() {
+        let number = N::nearest(lowest, cell.number());
+        if number.level(lowest) != cell.number() {
             return Ok(false);
         }
         above.push(number)?;
@@ -67,17 +108,17 @@ fn push_row(above: &mut Vec<u32>, lowest: Height, row: &[Cell]) -> Result<bool, 
 }
 
 /// Returns the levels inside the border, each above `lowest`; `None` if one does not fit.
-fn levels_above(
+fn levels_above<N: HeightAbove>(
     alloc: Global,
     levels: &[Cell],
     lowest: Height,
     cols: u32,
     rows: u32,
-) -> Result<Option<Vec<u32>>, AllocError>
+) -> Result<Option<Vec<N>>, AllocError>
     requires size { length levels.now ≡ (rows + 2) * (cols + 2) }
     requires few_cols { cols ≤ 4096 }
     requires few_rows { rows ≤ 4096 }
-    ensures { IfOk result (λ found. IfSome found (λ v. map (height_above lowest) v.items
+    ensures { IfOk result (λ found. IfSome found (λ v. map (N.stored lowest) v.items
         ≡ map height_or_lack (inner_rows levels.now cols rows))) }
 {
     let mut above = Vec::with_capacity(alloc, rows as usize * cols as usize)?;
@@ -112,7 +153,7 @@ impl Levels {
     }
 
     /// Stores the levels inside the border of a tile's net.
-    /// They take 4 bytes each if none is far from `lowest`, which should be the least.
+    /// They take 2 or 4 bytes each if none is far from `lowest`, which should be the least.
     pub(crate) fn of_nodes(
         alloc: Global,
         levels: &[Cell],
@@ -125,6 +166,10 @@ impl Levels {
         requires few_rows { rows ≤ 4096 }
         ensures { IfOk result (λ l. l ≡ map height_or_lack (inner_rows levels.now cols rows)) }
     {
+        if let Some(near) = levels_above(alloc, levels, lowest, cols, rows)? {
+            let stored = StoredLevels::Near(near);
+            return Ok(Levels { lowest, stored });
+        }
         if let Some(above) = levels_above(alloc, levels, lowest, cols, rows)? {
             let stored = StoredLevels::Above(above);
             return Ok(Levels { lowest, stored });
@@ -140,7 +185,8 @@ impl Levels {
         ensures { result ≡ slice_index_or self.now index (pos 0) }
     {
         match &self.stored {
-            StoredLevels::Above(above) => height_above(self.lowest, above[index]),
+            StoredLevels::Near(near) => near[index].level(self.lowest),
+            StoredLevels::Above(above) => above[index].level(self.lowest),
             StoredLevels::Whole(heights) => heights[index],
         }
     }

@@ -235,7 +235,7 @@ pub fn flood_with_meetings(
     let sinks = net.into_sinks();
     let IndexedLabels { labels, met } = labels_of(alloc, bounds, nodes)?;
     let meetings = indexed_meetings(alloc, met, meetings)?;
-    let ends = end_heights(alloc, view, &sinks, labels.places())?;
+    let ends = end_heights(alloc, view, &sinks, &labels)?;
     Ok(FloodWithMeetings {
         flood: TileFlood {
             bounds,

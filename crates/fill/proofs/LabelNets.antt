@@ -1,7 +1,6 @@
 -- The least crests of any net of labels (`IsLabelNet`) raise levels to the filled heights.
 use Rattle.std.proofs.Common.{◌≡◌, ℕ, ◌<◌, inl, inr, ℤ, pos, ◌≤ℤ◌, List, [], ◌∷◌, length, get_or, Option, None, Some, is_some, unwrap_or, ◌∙◌, sym, ap, subst, refl, arith}
-use Rattle.std.specs.Prelude.{slice_get, option_and_then, IsSome, ◌≢◌, ◌⊎◌}
-use Rattle.std.specs.Int.Signed.{≤ℤ_refl}
+use Rattle.std.specs.Prelude.{slice_get, option_and_then, ◌≢◌}
 use Rattle.std.specs.Int.{int_max}
 use Rattle.std.proofs.lemmas.Bool.{cases_eq}
 use Rattle.std.proofs.lemmas.Option.{MatchOption-at_some, MatchOption-at_none, same_Some, slice_get_cases}

@@ -1,26 +1,21 @@
 -- In `places_of` and `ends_of`, a label's number is the index of its place and, if it is an end
 -- cell, of its height.
-use Rattle.std.proofs.Common.{◌≡◌, ℕ, zero, suc, ◌+◌, ◌*◌, ◌<◌, ◌≤◌, ◌≤ℤ◌, ◌⊎◌, inl, inr, ℤ, List, [], ◌∷◌, length, get_or, take, Option, None, Some, ◌∙◌, sym, ap, subst, refl, arith}
-use Rattle.std.specs.Prelude.{slice_get, option_map}
+use Rattle.std.proofs.Common.{◌≡◌, ℕ, zero, suc, ◌+◌, ◌*◌, ◌<◌, ◌≤◌, ℤ, List, [], ◌∷◌, length, get_or, take, Option, None, Some, ◌∙◌, sym, ap, subst, refl, arith}
+use Rattle.std.specs.Prelude.{slice_get}
 use Rattle.std.specs.List.{flat_map}
 use Rattle.std.proofs.lemmas.Bool.{cond-true}
-use Rattle.std.proofs.lemmas.Option.{MatchOption-at_some, MatchOption-at_none, same_Some, slice_get_within, get_or_from_slice_get}
+use Rattle.std.proofs.lemmas.Option.{slice_get_within, get_or_from_slice_get}
 use Rattle.std.proofs.lemmas.List.Concat.{get_or-flat_map}
 use Rattle.std.proofs.lemmas.List.{get_or-map, length-append, length-map, take_all}
 use Rattle.terrain.specs.Raster.{Terrain}
-use Rattle.terrain.specs.Neighbours.{Touches, IsNeighbour}
 use Rattle.terrain.specs.declared.place.Place.{Place}
-use Rattle.terrain.proofs.Options.{cases_option}
 use Rattle.tiles.specs.Cutting.{Cutting, tile_of_place, index_in}
 use Rattle.tiles.proofs.TileOrder.{entry_in-inside, bounds_from_entry}
-use Rattle.tiles.proofs.Cut.{in_bounds_from, tile_of_place_below}
+use Rattle.tiles.proofs.Cut.{in_bounds_from}
 use Rattle.cell_floods.specs.Labels.{labels_by}
 use Rattle.cell_floods.specs.TileFlood.{Flood, IsFlood, level_in, label_in}
-use Rattle.cell_floods.proofs.TileRectangles.{data_within}
 use Rattle.fill.specs.Gathering.{Fit, cell_label_among}
-use Rattle.std.specs.Int.{int_max}
 use Rattle.tiles.specs.declared.bounds.Bounds.{Bounds}
-use Rattle.terrain.proofs.Orders.{max_comm}
 use Rattle.fill.specs.Numbers.{places_of, ends_of, first_of}
 use Rattle.fill.specs.SpillGraph.{AreFloods, level_among, label_among}
 use Rattle.fill.specs.declared.cell_labels.CellLabel.{CellLabel}

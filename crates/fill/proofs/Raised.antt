@@ -1,11 +1,9 @@
 -- A cell's raised height is the greater of its level and its label's least crest. It is the cell's
 -- filled height, and all tiles together give the filled grid.
-use Rattle.std.proofs.Common.{◌≡◌, ◌≢◌, ℕ, ◌+◌, ◌*◌, ◌<◌, ◌⊎◌, inl, inr, ℤ, List, length, get_or, map, Option, None, Some, is_some, ◌∙◌, sym, ap, subst, refl, arith, zero, suc, ◌/◌, ◌%◌, IfSome, MatchOption, mul_comm, pos, Vec, Global}
+use Rattle.std.proofs.Common.{◌≡◌, ℕ, ◌+◌, ◌*◌, ◌<◌, ◌⊎◌, inl, inr, ℤ, List, length, get_or, map, Option, None, Some, is_some, ◌∙◌, sym, ap, subst, refl, arith, zero, suc, ◌/◌, ◌%◌, IfSome, MatchOption, mul_comm, pos, Vec, Global}
 use Rattle.std.specs.Prelude.{slice_get, option_and_then, option_map}
 use Rattle.std.specs.Int.{int_max}
 use Rattle.std.specs.Ordering.{int_eq}
-use Rattle.std.specs.Prelude.{◌≤ℤ◌}
-use Rattle.std.proofs.lemmas.Bool.Decides.{Decides-int_eq}
 use Rattle.std.proofs.lemmas.Bool.{cases_eq, cases_Bool, cond-true, cond-false}
 use Rattle.std.proofs.lemmas.List.{get_or-map, length-map}
 use Rattle.terrain.specs.Raster.{Terrain, IsTerrain, IsHeight, Raster}
@@ -24,7 +22,7 @@ use Rattle.tiles.proofs.Cut.{bounds_inside, in_bounds, in_tile, tile_of_place_be
 use Rattle.tiles.proofs.TileOrder.{tile_entry-in, entry_in-inside, index_in_below}
 use Rattle.cell_floods.specs.TileFlood.{Flood, level_in, label_in, IsMeeting, IsTileFlood}
 use Rattle.cell_floods.specs.declared.tile.Meeting.{Meeting}
-use Rattle.fill.specs.SpillGraph.{IsListOf, AreFloods, level_among, label_among, AreLeastCrests, crest_of, greater_of, raised_by, IsRaised, IsFilledTile, IsGraphOf, IsPass, Graph, HasJoin, source_in}
+use Rattle.fill.specs.SpillGraph.{AreFloods, level_among, label_among, AreLeastCrests, crest_of, greater_of, raised_by, IsRaised, IsFilledTile, IsGraphOf, IsPass, Graph, HasJoin, source_in}
 use Rattle.fill.specs.RaisedTiles.{AreTileRuns, HasTile, IsRaisedTile, cell_at, raised_among, raised_cell, crest_with}
 use Rattle.fill.specs.RaisedRuns.{AreAllRaised, IsInTiles, IsPatched}
 use Rattle.fill.specs.declared.raised_runs.RaisedRun.{RaisedRun}

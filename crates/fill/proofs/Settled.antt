@@ -1,9 +1,7 @@
 -- Where each cell that rose is held and each level has a path below it, the levels are the filled
 -- heights.
-use Rattle.std.proofs.Common.{◌≡◌, ◌≢◌, ℕ, zero, suc, ◌+◌, ◌-◌, ◌*◌, ◌/◌, ◌%◌, ◌<◌, ◌≤◌, ◌⊎◌, inl, inr, ℤ, ◌≤ℤ◌, List, [], ◌∷◌, length, get_or, Option, None, Some, is_some, true, MatchOption, sym, ap, subst, refl, ◌∙◌, arith}
-use Rattle.std.specs.Int.{int_max}
+use Rattle.std.proofs.Common.{◌≡◌, ◌≢◌, ℕ, zero, suc, ◌+◌, ◌-◌, ◌*◌, ◌/◌, ◌%◌, ◌<◌, ◌≤◌, ◌⊎◌, inl, inr, ℤ, ◌≤ℤ◌, List, [], ◌∷◌, length, get_or, Option, None, Some, is_some, true, sym, ap, subst, refl, ◌∙◌, arith}
 use Rattle.std.specs.Ordering.{int_eq}
-use Rattle.std.specs.List.{All, Contains}
 use native.Mathlib.Numerals.{unary_clauses}
 use Rattle.std.proofs.lemmas.Bool.{cases_Bool, false≢true}
 use Rattle.std.proofs.lemmas.Bool.Decides.{Decides-int_eq}
@@ -11,7 +9,7 @@ use Rattle.std.proofs.lemmas.List.Elements.{All-contains}
 use Rattle.std.proofs.lemmas.Nat.{div-add-mod', div-mul-add, mod-mul-add}
 use Rattle.std.proofs.lemmas.Option.{same_Some}
 use Rattle.terrain.specs.Raster.{Terrain}
-use Rattle.terrain.specs.Neighbours.{HasGapAround, height_at, height_of, entry_at, index_of, IsDataCell, IsEnd, IsInside, IsNeighbour, IsSink, Touches}
+use Rattle.terrain.specs.Neighbours.{HasGapAround, height_at, height_of, entry_at, index_of, IsDataCell, IsEnd, IsInside, IsNeighbour, Touches}
 use Rattle.terrain.specs.Ways.{around_index}
 use Rattle.terrain.specs.declared.place.Place.{Place}
 use Rattle.terrain.proofs.EightWays.{eight, way_to, on_ways}
@@ -19,8 +17,8 @@ use Rattle.terrain.proofs.Heights.{height_is}
 use Rattle.terrain.proofs.Options.{cases_option, match_of, none_some}
 use Rattle.terrain.proofs.Orders.{le_of_same, max_right, trans}
 use Rattle.terrain.proofs.Places.{cases_place, entry-inside, inside_from_entry}
-use Rattle.drainage.specs.Filled.{IsPath, crest, IsFilled, IsFilledHeight}
-use Rattle.drainage.proofs.Heights.{first_is_data, height_below_crest, known}
+use Rattle.drainage.specs.Filled.{IsPath, crest, IsFilled}
+use Rattle.drainage.proofs.Heights.{first_is_data, height_below_crest}
 use Rattle.drainage.proofs.Reach.{HasLowPath}
 use Rattle.drainage.proofs.Uniqueness.{between}
 use Rattle.fill.specs.Held.{AreAsRead, IsHeld}

@@ -1,17 +1,15 @@
 -- The joins of a spill graph, as collected from the floods of the tiles. A tile's flood has the
 -- level and the label of each data cell, and a table that lists the tile's labels.
 -- Public.
-use Rattle.std.specs.Prelude.{◌≡◌, ◌≢◌, ℕ, ◌+◌, ◌-◌, ◌*◌, ◌/◌, ◌%◌, ◌<◌, ◌≤◌, ◌⊎◌, ◌==◌, ◌&&◌, true, false, if◌then◌else◌, is_some, Bool, ℤ, ◌≤ℤ◌, List, [], ◌∷◌, length, Option, None, Some, slice_get, slice_index_or, option_and_then, Vec}
-use Rattle.std.specs.declared.alloc.Global.{Global}
+use Rattle.std.specs.Prelude.{◌≡◌, ◌≢◌, ℕ, ◌+◌, ◌-◌, ◌*◌, ◌<◌, ◌⊎◌, ◌==◌, if◌then◌else◌, ℤ, ◌≤ℤ◌, List, [], ◌∷◌, length, Option, None, Some, slice_get, slice_index_or, option_and_then}
 use Rattle.std.specs.Int.{int_max}
-use Rattle.std.specs.List.{All, Contains}
+use Rattle.std.specs.List.{Contains}
 use Rattle.terrain.specs.Neighbours.{Touches}
 use Rattle.terrain.specs.Ways.{place_on}
 use Rattle.terrain.specs.declared.place.Place.{Place}
-use Rattle.tiles.specs.declared.bounds.Bounds.{Bounds}
-use Rattle.tiles.specs.Cutting.{Cutting, IsInBounds, IsInTile, IsWithin, across, tile_count, tile_of_place, bounds_of, is_in_bounds, index_in}
+use Rattle.tiles.specs.Cutting.{Cutting, IsWithin, tile_count, tile_of_place, bounds_of, is_in_bounds, index_in}
 use Rattle.cell_floods.specs.TileFlood.{Flood}
-use Rattle.fill.specs.Numbers.{ends_of, first_of}
+use Rattle.fill.specs.Numbers.{first_of}
 use Rattle.fill.specs.declared.spill_graph.Join.{Join}
 use Rattle.fill.specs.declared.cell_labels.CellLabel.{CellLabel}
 use Rattle.floods.specs.declared.net.Spill.{Spill}

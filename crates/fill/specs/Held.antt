@@ -2,11 +2,11 @@
 -- Private.
 use Rattle.std.specs.Prelude.{◌≡◌, ℕ, ◌+◌, ◌%◌, ◌<◌, ◌≤◌, ℤ, ◌≤ℤ◌, List, length, Option, None, Some, slice_index_or, Vec}
 use Rattle.std.specs.declared.alloc.Global.{Global}
-use Rattle.std.specs.List.{All, Contains}
+use Rattle.std.specs.List.{All}
 use Rattle.terrain.specs.Neighbours.{index_of}
 use Rattle.terrain.specs.Ways.{around_index}
 use Rattle.terrain.specs.declared.place.Place.{Place}
-use Rattle.fill.specs.RaisedRuns.{IsInRun, IsInRuns, IsInTiles}
+use Rattle.fill.specs.RaisedRuns.{IsInRuns, IsInTiles}
 use Rattle.fill.specs.declared.raised_runs.RaisedRun.{RaisedRun}
 
 -- The cell at index i and the eight around it have data, and none of these is lower.

@@ -1,14 +1,14 @@
 -- Tiles whose cells are raised: each data cell gets the greater of its level and the crest of its
 -- label in the spill graph.
 -- Private.
-use Rattle.std.specs.Prelude.{◌≡◌, ℕ, ◌+◌, ◌/◌, ◌%◌, ◌<◌, ◌≤ℤ◌, ℤ, pos, List, length, Option, None, Some, slice_index_or, option_and_then}
-use Rattle.terrain.specs.StoredCells.{cell_of, no_data}
+use Rattle.std.specs.Prelude.{◌≡◌, ℕ, ◌+◌, ◌/◌, ◌%◌, ◌<◌, ℤ, pos, List, length, Option, None, Some, slice_index_or, option_and_then}
+use Rattle.terrain.specs.StoredCells.{cell_of}
 use Rattle.terrain.specs.declared.place.Place.{Place}
 use Rattle.terrain.specs.Neighbours.{index_of}
 use Rattle.tiles.specs.Cutting.{Cutting, IsInBounds, View, bounds_of, index_in}
 use Rattle.cell_floods.specs.TileFlood.{Flood, IsFlood, levels_where}
 use Rattle.fill.specs.Gathering.{cell_label_among}
-use Rattle.fill.specs.SpillGraph.{IsListOf, greater_of, level_among}
+use Rattle.fill.specs.SpillGraph.{greater_of, level_among}
 use Rattle.fill.specs.declared.cell_labels.CellLabel.{CellLabel}
 use Rattle.fill.specs.RaisedRuns.{AreRaised, IsFound}
 use Rattle.fill.specs.declared.raised_runs.RaisedRun.{RaisedRun}

@@ -26,7 +26,7 @@ pub(crate) fn first_numbers(
     let mut count = 0;
     for flood in floods {
         firsts.push(count as u32)?;
-        count += flood.labels().places().len();
+        count += flood.labels().count();
     }
     Ok(firsts)
 }

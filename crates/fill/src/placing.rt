@@ -14,7 +14,7 @@ ghost use Rattle.fill.specs.SpillGraph.{AreFloods};
 
 use crate::cell_labels::node_of;
 use crate::spill_graph::Join;
-use cell_floods::TileFlood;
+use cell_floods::{Labels, TileFlood};
 use std::alloc::{AllocError, Global};
 use terrain::Place;
 use tiles::Tiling;
@@ -31,17 +31,14 @@ fn node_or_first(tiling: &Tiling, label: Option<Place>) -> u32
     }
 }
 
-fn push_nodes(
-    nodes: &mut Vec<u32>,
-    tiling: &Tiling,
-    labels: &[Option<Place>],
-) -> Result<(), AllocError>
-    requires { All (λ label. IfSome label (IsWithin tiling.now)) labels.now }
-    ensures { OnOk result
-        (nodes.new.items ≡ nodes.old.items ++ map (node_of_label tiling.now.cols) labels.now) }
+/// Adds the node of each entry of a tile's table of labels, 0 for one without a label.
+fn push_nodes(nodes: &mut Vec<u32>, tiling: &Tiling, labels: &Labels) -> Result<(), AllocError>
+    requires { All (λ label. IfSome label (IsWithin tiling.now)) labels.now.places }
+    ensures { OnOk result (nodes.new.items
+        ≡ nodes.old.items ++ map (node_of_label tiling.now.cols) labels.now.places) }
 {
-    for label in labels {
-        nodes.push(node_or_first(tiling, *label))?;
+    for index in 0..labels.count() {
+        nodes.push(node_or_first(tiling, labels.place(index)))?;
     }
     Ok(())
 }
@@ -57,7 +54,7 @@ pub(crate) fn label_nodes(
 {
     let mut nodes = Vec::new(alloc);
     for flood in floods {
-        push_nodes(&mut nodes, tiling, flood.labels().places())?;
+        push_nodes(&mut nodes, tiling, flood.labels())?;
     }
     Ok(nodes)
 }

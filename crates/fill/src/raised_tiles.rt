@@ -50,7 +50,7 @@ impl<'a> RaisedTile<'a> {
         RaisedTile {
             heights: flood.heights(),
             labels,
-            crests: &crests[first..first + labels.places().len()],
+            crests: &crests[first..first + labels.count()],
         }
     }
 

@@ -41,10 +41,10 @@ fn put_ends(heights: &mut Vec<Option<Height>>, tiling: &Tiling, flood: &TileFloo
     ensures puts { PutsEnds tiling.now flood.now heights.old.items heights.new.items }
     ensures lawful { IsFlood flood.now }
 {
-    let places = flood.labels().places();
+    let labels = flood.labels();
     let ends = flood.ends();
-    for index in 0..places.len() {
-        put_end(heights, tiling, places[index], ends[index]);
+    for index in 0..labels.count() {
+        put_end(heights, tiling, labels.place(index), ends[index]);
     }
 }
 

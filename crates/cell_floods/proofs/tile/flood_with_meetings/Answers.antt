@@ -15,10 +15,10 @@ use Rattle.cell_floods.proofs.Where.{levels_where_are, heights_whole, labels_ins
 use Rattle.cell_floods.proofs.TileRectangles.{AreTileLevels, bounds_limits, inner_entry, inner_labels, label_entry, tile_flood_is}
 use Rattle.std.proofs.lemmas.List.{length-map}
 use Rattle.cell_floods.proofs.tile.flood_with_meetings.Goals as goal
-use Rattle.cell_floods.proofs.tile.flood_with_meetings.Goals.{After-into_sinks-sinks, After-places}
+use Rattle.cell_floods.proofs.tile.flood_with_meetings.Goals.{After-into_sinks-sinks, After-deref}
 
 -- The levels and labels inside the border of the net's lists are those of the tile.
-inner : (c : goal.After-places) → let b = c.bounds-bounds.result in
+inner : (c : goal.After-deref) → let b = c.bounds-bounds.result in
     AreTileLevels (with_sinks (terrain_of c.args.view.now) c.args.sinks.now) c.args.view.now.cutting
     c.args.view.now.tile b (inner_rows c.in_ok-heights.ensures.levels b.cols b.rows)
     (labels_by c.in_ok-labels.field-0.labels.places c.in_ok-labels.field-0.labels.indexes)
@@ -30,7 +30,7 @@ inner c =
     (c.in_ok-labels.ensures.labels ∙ ap (map (label_of_node c.bounds-bounds.result)) found.nodes_are)
 
 -- The heights and the table of labels hold them.
-held : (c : goal.After-places) → let b = c.bounds-bounds.result in
+held : (c : goal.After-deref) → let b = c.bounds-bounds.result in
     let x = c.in_ok-labels.field-0.labels in
     levels_where (labels_by x.places x.indexes) c.in_ok-heights.field-0.heights ≡
     inner_rows c.in_ok-heights.ensures.levels b.cols b.rows
@@ -38,7 +38,7 @@ held c =
     let lawful = c.bounds-bounds.ensures.lawful in
     levels_where_are _ _ _ _ _ _ _ lawful.cutting lawful.tile c.in_ok-heights.ensures.heights_are (inner c)
 
-levels : (c : goal.After-places) → let view = c.args.view.now in
+levels : (c : goal.After-deref) → let view = c.args.view.now in
     let labels = labels_by c.in_ok-labels.field-0.labels.places c.in_ok-labels.field-0.labels.indexes in
     AreTileLevels (with_sinks (terrain_of view) c.args.sinks.now) view.cutting view.tile
     c.bounds-bounds.result (levels_where labels c.in_ok-heights.field-0.heights) labels
@@ -78,9 +78,10 @@ end_heights-requires c =
     let view = c.args.view.now in
     let lawful = c.bounds-bounds.ensures.lawful in
     let inside = IsInBounds (bounds_of view.cutting view.tile) in
-    rw c.places.ensures.value (all_inside inside _ (table_inside inside _ _ _ refl
-    c.in_ok-labels.ensures.table (λ k p e. in_bounds view.cutting view.tile p lawful.cutting
-    (labels_inside _ _ _ _ _ _ lawful.cutting lawful.tile (refl, refl) (levels c) k p e))))
+    all_inside inside _ (table_inside inside _ _ _ refl c.in_ok-labels.ensures.table
+    (λ k p e. in_bounds view.cutting view.tile p lawful.cutting
+    (labels_inside _ _ _ _ _ _ lawful.cutting lawful.tile (refl, refl)
+    (levels (goal.at.end_heights-requires c).After-deref) k p e)))
 
 pub invariant_of-result : goal.invariant_of-result
 invariant_of-result c =
@@ -97,7 +98,7 @@ invariant_of-result c =
 
 pub invariant_of-result-2 : goal.invariant_of-result-2
 invariant_of-result-2 c =
-    let are = levels (goal.at.invariant_of-result-2 c).After-places in
+    let are = levels (goal.at.invariant_of-result-2 c).After-deref in
     record {
       labels = refl;
       table = c.in_ok-labels.ensures.table;
@@ -108,13 +109,13 @@ invariant_of-result-2 c =
 
 pub returns-clause-flood : goal.returns-clause-flood
 returns-clause-flood c =
-    let are = levels (goal.at.returns-clause-flood c).After-places in
+    let are = levels (goal.at.returns-clause-flood c).After-deref in
     record {
       bounds = are.bounds;
       levels_size = are.levels_size ∙ ap (λ (b : Bounds). b.rows * b.cols) are.bounds;
       labels_size = are.labels_size ∙ ap (λ (b : Bounds). b.rows * b.cols) are.bounds;
       each = are.each;
-      ends = (rw (c.places.ensures.value, c.deref.ensures.value) at c.in_ok-ends.ensures)
+      ends = (rw c.deref.ensures.value at c.in_ok-ends.ensures)
           c.args.sinks.now (rw c.into_sinks-sinks.ensures c.in_ok-net.ensures.sinks);
     }
 
@@ -132,7 +133,7 @@ returns-clause-meetings c k d low =
     let n = c.in_ok-net.net in
     let meeting = c.in_ok-meetings.ensures k d low in
     let level_at = λ (p : Place) (inside : IsInBounds b p).
-    ap (λ z. entry_in b z p) (held (goal.at.returns-clause-meetings c).After-places)
+    ap (λ z. entry_in b z p) (held (goal.at.returns-clause-meetings c).After-deref)
     ∙ inner_entry b found.levels p (found.flooded.levels_size ∙ size) inside in
     let label_at = λ (p : Place) (inside : IsInBounds b p).
     ap (λ z. entry_in b z p) (c.in_ok-labels.ensures.labels ∙ ap (map (label_of_node b)) found.nodes_are)

@@ -1,6 +1,5 @@
-use Rattle.std.proofs.Common.{◌≡◌, ◌++◌, ap, sym, ◌∙◌, refl, arith}
+use Rattle.std.proofs.Common.{◌++◌, ap, sym, ◌∙◌, refl, arith}
 use Rattle.std.specs.Option.{option_to_list}
-use Rattle.std.proofs.lemmas.List.{append-nil}
 use Rattle.terrain.proofs.Options.{none_some}
 use Rattle.terrain.specs.Ways.{place_on}
 use Rattle.fill.specs.Gathering.{IsPairOn, cell_label_among}

@@ -1,5 +1,4 @@
 use Rattle.std.proofs.Common.{◌∷◌, ◌++◌, [], ℕ, inl, inr, take, ap, sym, subst, ◌∙◌, Vec, Global}
-use Rattle.std.proofs.lemmas.Bool.{OnTrue_at}
 use Rattle.std.proofs.lemmas.List.{take_all, take_more}
 use Rattle.fill.specs.RaisedRuns.{IsInRuns, IsInTiles}
 use Rattle.fill.specs.declared.raised_runs.RaisedRun.{RaisedRun}

@@ -19,8 +19,7 @@ loop-flood-preserved c =
     let i = c.loop-flood.flood-index in
     let f = c.flood-item.result in
     let are = c.requires.1 in
-    let sum = ap length c.places.ensures.value
-    ∙ ap (λ (z : LabelTable). length z.places) c.labels.ensures.value in
+    let sum = c.count-count.ensures.value ∙ ap (λ (z : LabelTable). length z.places) c.labels.ensures.value in
     let there : slice_get floods i ≡ Some f =
     slice_get_read floods (length floods) i f refl c.loop-flood-test.true c.flood-item.is in
     let labels = few_labels c.requires.0 tiling floods i f are there c.labels.ensures.lawful in

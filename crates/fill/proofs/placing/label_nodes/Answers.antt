@@ -9,6 +9,6 @@ push_nodes-requires c =
     let floods = c.args.floods.now in
     let there = slice_get_read floods (length floods)
     c.loop-flood.flood-index c.flood-item.result refl c.loop-flood-test.true c.flood-item.is in
-    rw c.places.ensures.value (all_within c.args.tiling.now c.flood-item.result
-    _ _ c.labels.ensures.labels c.places.ensures.table (labels_within c.requires.0 c.args.tiling.now
+    rw c.labels.ensures.value (all_within c.args.tiling.now c.flood-item.result _ _ c.labels.ensures.lawful.labels
+    c.labels.ensures.lawful.table (labels_within c.requires.0 c.args.tiling.now
     floods c.loop-flood.flood-index c.flood-item.result c.requires.1 there))

@@ -1,5 +1,3 @@
-use Rattle.std.specs.List.{All}
-use Rattle.cell_floods.specs.TileFlood.{IsMeeting}
 use Rattle.fill.proofs.Raised.{flood_of_view, meetings_of_view}
 use Rattle.fill.proofs.filling.FloodJobsWork.run.Goals as goal
 
