@@ -8,18 +8,16 @@ use std::alloc::{AllocError, Global};
 /// Disjoint sets of a net's nodes.
 #[derive(Drop)]
 pub struct LabelSets {
-    /// For each node a lower node of its set, or the node itself if none is lower.
+    /// For each node a lower node of its set, or no lower number if none is lower.
     parents: Vec<u32>,
 }
 
 impl LabelSets {
     /// Makes a set for each node below `count`.
     pub fn of_nodes(alloc: Global, count: u32) -> Result<Self, AllocError> {
-        let mut parents = Vec::with_capacity(alloc, count as usize)?;
-        for node in 0..count {
-            parents.push(node)?;
-        }
-        Ok(LabelSets { parents })
+        Ok(LabelSets {
+            parents: vec![in alloc; u32::MAX; count as usize]?,
+        })
     }
 
     /// Returns a lower node of a node's set, or the node itself.

@@ -197,9 +197,10 @@ fn short_indexes(alloc: Global, indexes: &[u32]) -> Result<Vec<u16>, AllocError>
     requires { All (λ k. k < SHORT) indexes.now }
     ensures { IfOk result (λ v. v.items ≡ indexes.now) }
 {
-    let mut short = Vec::with_capacity(alloc, indexes.len())?;
-    for index in indexes {
-        short.push(*index as u16)?;
+    // A loop of writes at indexes takes several at once, one of `push` does not.
+    let mut short = vec![in alloc; 0; indexes.len()]?;
+    for cell in 0..indexes.len() {
+        short[cell] = indexes[cell] as u16;
     }
     Ok(short)
 }

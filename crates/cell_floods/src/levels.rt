@@ -57,7 +57,10 @@ impl HeightAbove for u16 {
     #[inline(always)]
     fn nearest(lowest: Height, level: Height) -> u16 {
         // No data is far above all heights, so its number is the greatest.
-        level.abs_diff(lowest).min(u16::MAX as u64) as u16
+        level
+            .wrapping_sub(lowest)
+            .cast_unsigned()
+            .min(u16::MAX as u64) as u16
     }
 
     #[inline(always)]
@@ -75,7 +78,10 @@ impl HeightAbove for u32 {
 
     #[inline(always)]
     fn nearest(lowest: Height, level: Height) -> u32 {
-        level.abs_diff(lowest).min(u32::MAX as u64) as u32
+        level
+            .wrapping_sub(lowest)
+            .cast_unsigned()
+            .min(u32::MAX as u64) as u32
     }
 
     #[inline(always)]
