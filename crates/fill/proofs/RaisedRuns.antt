@@ -1,5 +1,5 @@
 -- A cell added to runs, a row's cells added, and runs put into their places in a list.
-use Rattle.std.proofs.Common.{◌≡◌, ℕ, ◌+◌, ◌-◌, ◌*◌, ◌<◌, ◌⊎◌, ◌↔◌, ℤ, List, [], ◌∷◌, ◌++◌, get_or, Option, None, arith, refl, ap, sym, ◌∙◌, subst, inl, inr}
+use Rattle.std.proofs.Common.{◌≡◌, ℕ, ◌+◌, ◌-◌, ◌*◌, ◌<◌, ◌≤◌, ◌⊎◌, ◌↔◌, ℤ, List, [], ◌∷◌, ◌++◌, get_or, Option, None, arith, refl, ap, sym, ◌∙◌, subst, inl, inr}
 use Rattle.std.specs.List.{Contains}
 use Rattle.std.proofs.lemmas.Bool.{cases_eq, cases_lt}
 use Rattle.std.proofs.lemmas.List.Elements.{Contains-append_left, Contains-push, Contains-push_cases}
@@ -64,15 +64,16 @@ pub no_cells : (raised : ℕ → Option ℤ) (read : List (Option ℤ)) (first :
 no_cells raised read first runs =
     record { kept = λ k x. x; sound = λ all. all; each = λ k below. absurd (omega (arith, below)) }
 
-pub cell_stays : (raised : ℕ → Option ℤ) (read : List (Option ℤ)) (first k : ℕ)
-    (old now : List RaisedRun) → AddsRow raised read first k old now → get_or read k None ≡ raised (first + k) →
-    AddsRow raised read first (k + 1) old now
-cell_stays raised read first k old now s is = record {
+-- From index k on and before m the cells read are the raised ones.
+pub cells_stay : (raised : ℕ → Option ℤ) (read : List (Option ℤ)) (first k m : ℕ)
+    (old now : List RaisedRun) → AddsRow raised read first k old now →
+    ((j : ℕ) → k ≤ j → j < m → get_or read j None ≡ raised (first + j)) → AddsRow raised read first m old now
+cells_stay raised read first k m old now s stay = record {
   kept = s.kept;
   sound = s.sound;
-  each = λ j below. elim (cases_eq j k) [
-    | inl same ↦ inr (ap (λ n. get_or read n None) same ∙ is ∙ ap (λ n. raised (first + n)) (sym same))
-    | inr other ↦ s.each j (omega (arith, below, other))
+  each = λ j below. elim (cases_lt j k) [
+    | inl before ↦ s.each j before
+    | inr after ↦ inr (stay j after below)
   ];
 }
 

@@ -2,7 +2,7 @@
 //!
 //! A filled height is the greater of a cell's level and its label's crest in the spill graph.
 ghost use Rattle.std.proofs.Props.{props};
-ghost use Rattle.std.specs.Prelude.{◌≡◌, ℕ, ℤ, Option, ◌+◌, ◌*◌, ◌^◌, ◌<◌, ◌≤◌, length, All, IfOk, OnOk};
+ghost use Rattle.std.specs.Prelude.{slice_index_or, ◌≡◌, ℕ, ℤ, Option, ◌+◌, ◌*◌, ◌^◌, ◌<◌, ◌≤◌, length, All, IfOk, OnOk};
 ghost use Rattle.terrain.specs.StoredCells.{cell_of};
 ghost use Rattle.tiles.specs.Cutting.{IsCutting, cell_count};
 ghost use Rattle.fill.specs.Crests.{HasNoCrestWithoutPlace};
@@ -67,6 +67,31 @@ impl<'a> RaisedTile<'a> {
         Cell::of(self.heights.at(index).max(crest.number()))
     }
 
+    /// Returns the index in a row of its first cell, from `from` on, that rises above the height
+    /// read; the row's length if none does.
+    ///
+    /// `read` has the row's cells as read. The first of them has index `start` in the tile's row
+    /// order.
+    #[inline(always)]
+    fn first_risen(&self, read: &[Cell], start: usize, from: usize) -> usize
+        requires start { start ≤ 16777216 }
+        requires from { from ≤ length read.now }
+        requires height { start + length read.now ≤ length self.now.heights.now }
+        requires label { length self.now.heights.now ≤ length self.now.labels.now.indexes }
+        requires inside { All (λ k. k < length self.now.crests.now) self.now.labels.now.indexes }
+        ensures from { from ≤ result }
+        ensures within { result ≤ length read.now }
+        ensures passed { (k : ℕ) → from ≤ k → k < result →
+            slice_index_or read.now k None ≡ cell_at self.now (start + k) }
+    {
+        for index in from..read.len() {
+            if !self.at(start + index).is_level_with(read[index]) {
+                return index;
+            }
+        }
+        read.len()
+    }
+
     /// Adds the cells of a row that rise above the heights read.
     ///
     /// `read` has the row's cells as read. The first of them has index `start` in the tile's row
@@ -87,11 +112,11 @@ impl<'a> RaisedTile<'a> {
             HasRow self.now raised start first (length read.now) → AddsRow raised read.now first
             (length read.now) (runs_of runs.old) (runs_of runs.new)) }
     {
-        for index in 0..read.len() {
-            let cell = self.at(start + index);
-            if !cell.is_level_with(read[index]) {
-                runs.add(first + index as u32, cell)?;
-            }
+        // The search calls nothing and writes nothing: half the instructions of one loop for both.
+        let mut index = self.first_risen(read, start, 0);
+        while index < read.len() {
+            runs.add(first + index as u32, self.at(start + index))?;
+            index = self.first_risen(read, start, index + 1);
         }
         Ok(())
     }
