@@ -19,7 +19,7 @@ ghost use Rattle.floods.specs.Flood.{entry_of};
 ghost use Rattle.floods.specs.Notes.{no_label, numbered_labels};
 ghost use Rattle.floods.specs.Walk.{IsFlooded};
 ghost use Rattle.cell_floods.specs.Cells.{IsCellJoin, source_of};
-ghost use Rattle.cell_floods.specs.Spreading.{AreMeetings, HasSources, IsNodeMeeting, IsPartFlood, Reaches, Spreads, level_of};
+ghost use Rattle.cell_floods.specs.Spreading.{AreMeetings, HasSources, IsNodeMeeting, IsPartFlood, Reaches, Spreads, level_of, number_of};
 
 use crate::cell_net::CellNet;
 use crate::label_sets::LabelSets;
@@ -143,9 +143,32 @@ impl<'a> Spreading<'a> {
         Ok(())
     }
 
+    /// Labels node `to`, which has no label, from a node of this label and level, if it is a data
+    /// cell. Opens it where its level is that of the other node.
+    #[inline(never)]
+    fn label_cell(&mut self, to: u32, label: u32, level: Cell) -> Result<(), AllocError>
+        requires to { to < length self.old.net.now.cells }
+        requires sizes { (now : ℤ) × IsPartFlood now self.old }
+        requires unlabelled { number_of self.old.labels.items to ≡ no_label }
+        requires level { IsSome level }
+        ensures { OnOk result (Reaches (unwrap_or level no_data) label to self.old self.new) }
+    {
+        let cell = self.net.cells()[to as usize];
+        let Some(height) = cell.height() else {
+            return Ok(());
+        };
+        self.labels[to as usize] = label;
+        self.levels[to as usize] = higher(cell, level);
+        if height <= level.number() {
+            self.waiting.push(to)?;
+        }
+        Ok(())
+    }
+
     /// Labels node `to` from a node of this label and level, if it is an unlabelled data cell.
     /// Opens it where its level is that of the other node. If it has another label, that one meets
     /// `label`, unless the sets tell that they have met: `set` is that of `label`.
+    // What is rare is called, so that the loop over eight nodes is short enough to be unrolled.
     #[inline(always)]
     fn reach(&mut self, to: u32, label: u32, set: u32, level: Cell) -> Result<(), AllocError>
         requires to { to < length self.old.net.now.cells }
@@ -158,22 +181,13 @@ impl<'a> Spreading<'a> {
         if own == label {
             return Ok(());
         }
-        if own != NO_LABEL {
-            if self.sets.set_of(own) == set {
-                return Ok(());
-            }
-            return self.meet(to, label, level);
+        if own == NO_LABEL {
+            return self.label_cell(to, label, level);
         }
-        let cell = self.net.cells()[to as usize];
-        let Some(height) = cell.height() else {
+        if self.sets.set_of(own) == set {
             return Ok(());
-        };
-        self.labels[to as usize] = label;
-        self.levels[to as usize] = higher(cell, level);
-        if height <= level.number() {
-            self.waiting.push(to)?;
         }
-        Ok(())
+        self.meet(to, label, level)
     }
 
     /// Lets a labelled node spread.

@@ -72,7 +72,7 @@ impl<'a> RaisedTile<'a> {
     ///
     /// `read` has the row's cells as read. The first of them has index `start` in the tile's row
     /// order.
-    #[inline(always)]
+    #[inline(never)]
     fn first_risen(&self, read: &[Cell], start: usize, from: usize) -> usize
         requires start { start ≤ 16777216 }
         requires from { from ≤ length read.now }
@@ -112,7 +112,7 @@ impl<'a> RaisedTile<'a> {
             HasRow self.now raised start first (length read.now) → AddsRow raised read.now first
             (length read.now) (runs_of runs.old) (runs_of runs.new)) }
     {
-        // The search calls nothing and writes nothing: half the instructions of one loop for both.
+        // The search writes nothing, so its loop need not ask for the widths at each cell.
         let mut index = self.first_risen(read, start, 0);
         while index < read.len() {
             runs.add(first + index as u32, self.at(start + index))?;
