@@ -202,6 +202,14 @@ known_more {links} {ends} {number} node end f h e = record {
   ];
 }
 
+-- A node's number is that of the next node on its path.
+pub next_number : {links ends : List ℕ} {number : ℕ → ℕ} (node : ℕ) {next : ℕ} → AreStreams links →
+    AreKnown links number ends → node < length links → next ≡ next_node links node → IsKnown ends next →
+    get_or ends next 0 ≡ number (end_of links node)
+next_number {links} {number = number} node {next} s f h is known =
+    f.right next (omega (arith, is, s.inside node h)) known
+    ∙ ap number (ap (end_of links) is ∙ end-onward s node h)
+
 pub known_same : (ends : List ℕ) (node end : ℕ) → node < length ends → end ≢ uncounted →
     IsKnown (set ends node end) node
 known_same ends node end h ne e = ne (sym (get_or-set_same ends node end 0 h) ∙ e)

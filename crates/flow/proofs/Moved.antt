@@ -1,13 +1,14 @@
 -- A cell's move leads to the cell to which the cell is linked. So the moves of all cells lead along
 -- the tile's links.
-use Rattle.std.proofs.Common.{◌≡◌, ℕ, ◌+◌, ◌-◌, ◌*◌, ◌/◌, ◌%◌, ◌^◌, ◌<◌, ◌≤◌, inl, inr, List, [], ◌∷◌, length, get_or, Option, None, Some, unwrap_or, false, cond, sym, ap, refl, ◌∙◌, arith}
+use borrow.Author.Count.{below_more}
+use Rattle.std.proofs.Common.{◌≡◌, ℕ, ◌+◌, ◌-◌, ◌*◌, ◌/◌, ◌%◌, ◌^◌, ◌<◌, ◌≤◌, ◌⊎◌, inl, inr, List, [], ◌∷◌, length, get_or, set, Option, None, Some, unwrap_or, false, cond, sym, ap, subst, refl, ◌∙◌, arith}
 use Rattle.std.specs.Option.{option_and_then}
 use Rattle.std.proofs.Math.Nat.{mul-le-mul}
-use Rattle.std.proofs.lemmas.Bool.{cases_Bool, cases_lt, cond-true, cond-false}
+use Rattle.std.proofs.lemmas.Bool.{cases_Bool, cases_eq, cases_lt, cond-true, cond-false}
 use Rattle.std.proofs.lemmas.Grind.{same_number_lists}
-use Rattle.std.proofs.lemmas.List.{get_or_default, get_or_past}
+use Rattle.std.proofs.lemmas.List.{get_or_default, get_or_past, get_or-set_same, get_or-set_other, length-set}
 use Rattle.std.proofs.lemmas.List.FromFn.{get_or-map-range_with_len, length-map-range_with_len}
-use Rattle.std.proofs.lemmas.Nat.{div-mul-add, mod-mul-add}
+use Rattle.std.proofs.lemmas.Nat.{div-mul-add, mod-mul-add, mul-add-lt}
 use Rattle.std.proofs.lemmas.Option.{none-some}
 use Rattle.terrain.specs.Neighbours.{Touches}
 use Rattle.terrain.specs.Ways.{way_of, ways_from, place_on, place_toward, around_index}
@@ -18,8 +19,10 @@ use Rattle.terrain.proofs.EightWays.{Touches-from_ways, eight, on_ways}
 use Rattle.tiles.specs.declared.bounds.Bounds.{Bounds}
 use Rattle.tiles.specs.Cutting.{longest_axis, IsInBounds, is_in_bounds, index_in, place_in}
 use Rattle.tiles.proofs.Cut.{in_bounds_from, in_bounds_parts}
-use Rattle.tiles.proofs.TileOrder.{index_in_below, index_in-place_in}
-use Rattle.flow.specs.TileLinks.{IsInteriorAt, EndsInLargestGrid, link_by, links_by, reach, moved_by, AreMoves, IsMove, AreFirstMoves}
+use Rattle.tiles.specs.RimNumbers.{stride, side_number, side_place}
+use Rattle.tiles.proofs.RimNumbered.{IsSide, side_below, side_back}
+use Rattle.tiles.proofs.TileOrder.{place_in_bounds, index_in_below, index_in-place_in}
+use Rattle.flow.specs.TileLinks.{IsInteriorAt, EndsInLargestGrid, link_by, links_by, reach, moved_by, AreMoves, IsMove, AreMovesOf, AreInteriorMoves}
 use Rattle.flow.proofs.Listed.{place_in_row}
 
 toward_touches : (p q : Place) (code : ℕ) → place_toward code p ≡ Some q → Touches p q
@@ -174,14 +177,114 @@ link_below b i code h =
       | inr n ↦ omega (arith, cond-false _ (index_in b q) i n, h)
     ]
 
+-- If P holds of an entry, and of x at index k, it holds of that entry once entry k is x.
+set_kept : (P : ℕ → ℕ → Type 0) (xs : List ℕ) (k x i : ℕ) → k < length xs → P k x → P i (get_or xs i 0) →
+    P i (get_or (set xs k x) i 0)
+set_kept P xs k x i below here was = elim (cases_eq i k) [
+  | inl same ↦ rw same (rw (get_or-set_same xs k x 0 below) here)
+  | inr other ↦ rw (get_or-set_other xs k i x 0 other) was
+]
+
+pub each_set : (P : ℕ → ℕ → Type 0) (xs : List ℕ) (k x : ℕ) → k < length xs → P k x →
+    ((i : ℕ) → i < k → P i (get_or xs i 0)) → (i : ℕ) → i < k + 1 → P i (get_or (set xs k x) i 0)
+each_set P xs k x below here each = below_more (λ i. P i (get_or (set xs k x) i 0)) k
+    (λ i early. set_kept P xs k x i below here (each i early)) (rw (get_or-set_same xs k x 0 below) here)
+
+-- The list has the move of cell i.
+abbrev pub MoveAt : Bounds → List (Option ℕ) → List ℕ → ℕ → Type 0
+MoveAt b cells moves i = IsMove b i (get_or cells i None) (get_or moves i 0)
+
+-- The moves of the interior cells, and of the rim cells with the first `count` side numbers.
+pub record AreMovesUpTo (b : Bounds) (cells : List (Option ℕ)) (count : ℕ) (moves : List ℕ) : Type 0 where
+  pub size : length moves ≡ b.rows * b.cols
+  pub interior : (row col : ℕ) → IsInteriorAt b row col → MoveAt b cells moves (row * b.cols + col)
+  pub sides : (side : ℕ) → side < count → MoveAt b cells moves (index_in b (side_place b b side))
+
+pub moves_first : {b : Bounds} {cells : List (Option ℕ)} {moves : List ℕ} → length cells ≡ b.rows * b.cols →
+    AreInteriorMoves cells moves → AreMovesUpTo b cells 0 moves
+moves_first {b} size s = record {
+  size = s.size ∙ size;
+  interior = λ row col at.
+      let high : row < b.rows = omega (arith, at.last_row) in
+      let wide : col < b.cols = omega (arith, at.last_col) in
+      s.each (row * b.cols + col) (omega (arith, size, mul-add-lt row b.cols col b.rows high wide)) b row col at;
+  sides = λ side none. absurd (omega (arith, none));
+}
+
+pub moves_next : {b : Bounds} {cells : List (Option ℕ)} {moves : List ℕ} (side move : ℕ) →
+    let k = index_in b (side_place b b side) in
+    k < b.rows * b.cols → IsMove b k (get_or cells k None) move → AreMovesUpTo b cells side moves →
+    AreMovesUpTo b cells (side + 1) (set moves k move)
+moves_next {b} {cells} {moves} side move below here s =
+    let k = index_in b (side_place b b side) in
+    let P : ℕ → ℕ → Type 0 = λ i move. IsMove b i (get_or cells i None) move in
+    let inside : k < length moves = omega (arith, below, s.size) in
+    record {
+      size = length-set moves k move ∙ s.size;
+      interior = λ row col at. set_kept P moves k move (row * b.cols + col) inside here (s.interior row col at);
+      sides = below_more (λ j. MoveAt b cells (set moves k move) (index_in b (side_place b b j))) side
+          (λ j early. set_kept P moves k move (index_in b (side_place b b j)) inside here (s.sides j early))
+          (rw (get_or-set_same moves k move 0 inside) here);
+    }
+
+-- A cell is interior, or has a side number.
+abbrev HasSide : Bounds → ℕ → Type 0
+HasSide b i = (side : ℕ) × (side < stride b) × (index_in b (side_place b b side) ≡ i)
+
+abbrev IsInterior : Bounds → ℕ → Type 0
+IsInterior b i = (row : ℕ) × (col : ℕ) × IsInteriorAt b row col × (row * b.cols + col ≡ i)
+
+cases_rim : (b : Bounds) (i : ℕ) → 1 ≤ b.cols → i < b.rows * b.cols → HasSide b i ⊎ IsInterior b i
+cases_rim b i some_col below =
+    let p = place_in b i in
+    let here = place_in_bounds b i some_col below in
+    let rim : IsSide b (place_in b i) → HasSide b i = λ side. (
+      side_number b b p,
+      side_below b b p (omega arith) (omega arith) here,
+      ap (index_in b) (side_back b b p (omega arith) (omega arith) here side) ∙ index_in-place_in b i,
+    ) in
+    elim (cases_eq (place_in b i).row b.top) [
+      | inl top ↦ inl (rim (λ a _ _. absurd (a top)))
+      | inr low ↦ elim (cases_eq ((place_in b i).row + 1) (b.top + b.rows)) [
+        | inl bottom ↦ inl (rim (λ _ a _. absurd (a bottom)))
+        | inr high ↦ elim (cases_eq (place_in b i).col b.left) [
+          | inl left ↦ inl (rim (λ _ _ a. absurd (a left)))
+          | inr after ↦ elim (cases_eq ((place_in b i).col + 1) (b.left + b.cols)) [
+            | inl right ↦ inl (rim (λ _ _ _. right))
+            | inr before ↦ inr (
+              i / b.cols,
+              i % b.cols,
+              record {
+                first_row = omega arith;
+                last_row = omega arith;
+                first_col = omega arith;
+                last_col = omega arith;
+              },
+              omega arith,
+            )
+          ]
+        ]
+      ]
+    ]
+
+pub moves_all : {b : Bounds} {cells : List (Option ℕ)} {moves : List ℕ} (count : ℕ) → 1 ≤ b.cols → stride b ≤ count →
+    AreMovesUpTo b cells count moves → AreMovesOf b cells moves
+moves_all {b} {cells} {moves} count some_col all s = record {
+  size = s.size;
+  each = λ i below. elim (cases_rim b i some_col below) [
+    | inl rim ↦ subst (λ k. MoveAt b cells moves k) rim.2 (s.sides rim.0 (omega (arith, rim.1)))
+    | inr inner ↦ subst (λ k. MoveAt b cells moves k) inner.3 (s.interior inner.0 inner.1 inner.2)
+  ];
+}
+
 module _ {b : Bounds} {cells : List (Option ℕ)} {moves : List ℕ} (small : EndsInLargestGrid b)
-    (s : AreFirstMoves b cells (b.rows * b.cols) moves) where
+    (s : AreMovesOf b cells moves) where
   pub moves_fit : AreMoves b.cols moves
   moves_fit = record {
-    low = λ i h. omega (arith, s.each i h);
+    low = λ i h. omega (arith, s.each i (omega (arith, h, s.size)));
     high = λ i h. omega (
       arith,
-      s.each i h,
+      s.each i (omega (arith, h, s.size)),
       link_below b i (get_or cells i None) (omega (arith, h, s.size)),
       few_cells b small.few_rows small.few_cols,
       small.few_cols,
@@ -199,7 +302,7 @@ module _ {b : Bounds} {cells : List (Option ℕ)} {moves : List ℕ} (small : En
         arith,
         get_or-map-range_with_len there 0 (length moves) i i 0 (omega (arith, h, made)) (omega arith),
         get_or-map-range_with_len link 0 (b.rows * b.cols) i i 0 below (omega arith),
-        s.each i (omega (arith, below, s.size)),
+        s.each i below,
       )))
 
 pub moves_below : (cols : ℕ) (moves : List ℕ) {links : List ℕ} (i : ℕ) → moved_by cols moves ≡ links → i < length

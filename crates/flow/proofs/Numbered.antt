@@ -17,7 +17,7 @@ use Rattle.drainage.specs.Following.{Directed, code_at, last_of, next}
 use Rattle.flow.specs.Counts.{IsValueAt}
 use Rattle.flow.specs.TileFlow.{Flow, exit_in, IsTileExits, IsExitOf, IsExitCell}
 use Rattle.flow.specs.TileLinks.{where_data}
-use Rattle.flow.specs.Whole.{is_outlet_code, directed_on}
+use Rattle.flow.specs.Whole.{is_outlet_code}
 use Rattle.flow.specs.RimGraph.{AreFlowsOf, AreOutlets, Outlets, listed_outlet}
 use Rattle.flow.specs.Numbering.{EndNumbers, end_number, outlet_numbers, IsNumbering, IsReady, AreReady, AreExitNumbers, AreNumberedCells, IsNumberedPlace, number_at, tile_numbers, cell_numbers_by}
 use Rattle.flow.proofs.Coded.{IsCoded, cases_coded, coded_along, coded_inside}
@@ -39,17 +39,16 @@ numbers_few {o} {flows} {n} {f} are i below =
     (λ _. omega arith)
 
 -- A map's flows, the outlets found from them, and numbers below `uncounted` meet `IsNumbering`.
-pub numbering_of : {t : Cutting} (codes : List (Option ℕ)) {flows joined : List Flow} (o : Outlets)
-    (n : EndNumbers) →
-    AreFlowsOf (directed_on t codes) t flows → joined ≡ flows → o.cutting ≡ t →
-    ((d : Directed) → AreFlowsOf d t joined → AreOutlets d t joined o) →
+pub numbering_of : {d : Directed} {t : Cutting} {flows : List Flow} (o : Outlets) (n : EndNumbers) →
+    AreFlowsOf d t flows → o.cutting ≡ t →
+    ((d : Directed) → AreFlowsOf d t flows → AreOutlets d t flows o) →
     n.cells ≡ t.cols * t.rows → ((i : ℕ) → i < n.cells → n.number i < uncounted) →
-    IsNumbering (directed_on t codes) t flows o n
-numbering_of {t} codes o n are same cutting outlets size few = record {
+    IsNumbering d t flows o n
+numbering_of {d} {t} o n are cutting outlets size few = record {
   are_flows = are;
-  are_outlets = rw same at (outlets (directed_on t codes)) are;
+  are_outlets = outlets d are;
   same_cutting = cutting;
-  size = size;
+  size = size ∙ sym (ap (λ n. d.cols * n) are.of_tiles.size.1 ∙ ap (λ n. n * t.rows) are.of_tiles.size.0);
   few = few;
 }
 

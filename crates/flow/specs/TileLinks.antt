@@ -59,12 +59,22 @@ pub record AreMoves (cols : ℕ) (moves : List ℕ) : Type 0 where
 abbrev pub IsMove : Bounds → ℕ → Option ℕ → ℕ → Type 0
 IsMove b i code move = reach b.cols i move ≡ link_by b i code + (b.cols + 1)
 
--- The moves of the first `count` cells.
-pub record AreFirstMoves (b : Bounds) (cells : List (Option ℕ)) (count : ℕ) (moves : List ℕ) :
-    Type 0 where
-  pub size : length moves ≡ count
-  pub each : (i : ℕ) → i < length moves →
+-- The move of each cell in the bounds.
+pub record AreMovesOf (b : Bounds) (cells : List (Option ℕ)) (moves : List ℕ) : Type 0 where
+  pub size : length moves ≡ b.rows * b.cols
+  pub each : (i : ℕ) → i < b.rows * b.cols →
       IsMove b i (slice_index_or cells i None) (slice_index moves i)
+
+-- The move of each cell with this code that is interior in its bounds.
+abbrev pub IsInteriorMove : Option ℕ → ℕ → Type 0
+IsInteriorMove code move =
+    (b : Bounds) (row col : ℕ) → IsInteriorAt b row col → IsMove b (row * b.cols + col) code move
+
+-- The moves of cells that are all interior.
+pub record AreInteriorMoves (cells : List (Option ℕ)) (moves : List ℕ) : Type 0 where
+  pub size : length moves ≡ length cells
+  pub each : (i : ℕ) → i < length cells →
+      IsInteriorMove (slice_index_or cells i None) (slice_index moves i)
 
 abbrev pub weights_by : List (Option ℕ) → List ℕ
 weights_by cells = map (λ code. if is_some code then 1 else 0) cells

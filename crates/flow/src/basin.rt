@@ -5,6 +5,7 @@ ghost use Rattle.tile_jobs.specs.Fault.{RefusesWorkers};
 ghost use Rattle.drainage.specs.Drained.{directed_of};
 ghost use Rattle.flow.specs.Counts.{AreBasins};
 
+use crate::flowing::exit_tiles;
 use crate::numbering::number_cells;
 use crate::outlet_numbers::OutletNumbers;
 use drainage::Directions;
@@ -56,6 +57,7 @@ pub fn basins<R: Threads + Wait + Sync, G: Gate + Sync>(
         gate,
     };
     let codes = d.codes();
+    let flows = exit_tiles(&runner, codes, tiling)?;
     let numbers = OutletNumbers::of_codes(alloc, codes)?;
-    number_cells(&runner, codes, tiling, numbers)
+    number_cells(&runner, tiling, flows, numbers)
 }

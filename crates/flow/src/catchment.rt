@@ -5,6 +5,7 @@ ghost use Rattle.drainage.specs.Drained.{directed_of};
 ghost use Rattle.flow.specs.Catchments.{AreCatchments, RefusesGauges, gauges_fault};
 ghost use Rattle.flow.specs.CutCodes.{AreCutCodes, HaveCodes};
 
+use crate::flowing::exit_tiles;
 use crate::gauges::{GaugeFault, GaugeNumbers, first_fault};
 use crate::numbering::number_cells;
 use drainage::{Code, Directions};
@@ -84,7 +85,9 @@ pub fn catchments<R: Threads + Wait + Sync, G: Gate + Sync>(
         gate,
     };
     let codes = cut_codes(alloc, d.codes(), tiling, gauges)?;
+    let flows = exit_tiles(&runner, &codes, tiling)?;
+    drop(codes);
     let numbers = GaugeNumbers::of_gauges(alloc, tiling, gauges)?;
-    let values = number_cells(&runner, &codes, tiling, numbers)?;
+    let values = number_cells(&runner, tiling, flows, numbers)?;
     Ok(values)
 }

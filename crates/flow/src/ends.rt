@@ -97,7 +97,9 @@ impl<'a, L: Links, N: EndNumbering> Paths<'a, L, N> {
             (N.numbers self.now.numbers.now).number found.new }
     {
         for node in 0..self.links.count() {
-            self.find(found, node);
+            if found[node] == UNKNOWN {
+                self.find(found, node);
+            }
         }
     }
 
@@ -115,6 +117,12 @@ impl<'a, L: Links, N: EndNumbering> Paths<'a, L, N> {
         ensures kept { (i : ℕ) → IsKnown found.old i → IsKnown found.new i }
         ensures known { IsKnown found.new node }
     {
+        // Half of all cells lead to one whose number is known, so no path is walked.
+        let known = found[self.links.next(node)];
+        if known != UNKNOWN {
+            found[node] = known;
+            return known;
+        }
         let number = self.number_from(found, node);
         self.write(found, node, number);
         number

@@ -7,13 +7,12 @@ ghost use Rattle.terrain.specs.StoredCells.{uncounted};
 ghost use Rattle.tiles.specs.Cutting.{IsWithin};
 ghost use Rattle.tile_jobs.specs.Fault.{RefusesWorkers};
 ghost use Rattle.flow.specs.Counts.{IsMapOf};
-ghost use Rattle.flow.specs.Whole.{IsGridFlow, make_directed};
-ghost use Rattle.flow.specs.RimGraph.{listed_outlet};
+ghost use Rattle.drainage.specs.Following.{Directed};
+ghost use Rattle.flow.specs.RimGraph.{AreFlowsOf, listed_outlet};
 ghost use Rattle.flow.specs.Numbering.{AreNumberedCells, AreReady, cell_numbers_by, end_number, number_at};
 
 use crate::counting::count_where_data;
 use crate::end_numbers::EndNumbering;
-use crate::flowing::exit_tiles;
 use crate::outlets::Outlets;
 use crate::rim_graph::RimGraph;
 use crate::tile_exits::TileExits;
@@ -22,7 +21,7 @@ use std::alloc::{AllocError, Global};
 use std::sync::Wait;
 use std::thread::Threads;
 use terrain::{Count, NoMemory, Place};
-use tile_jobs::{Gate, JobFault};
+use tile_jobs::{Gate, JobFault, check_workers};
 use tile_maps::{Runner, TileMap};
 use tiles::Tiling;
 
@@ -108,22 +107,22 @@ impl<'a, 'b, N: EndNumbering> EndNumbering for TileNumbers<'a, 'b, N> {
 
 /// Gives each data cell of a grid the number of the cell where its flow path ends.
 ///
-/// Each tile has two jobs: one finds its exits, and a later one numbers its cells.
+/// `flows` are the exits of all tiles, in tile order. A job for each tile numbers its cells.
 pub(crate) fn number_cells<R: Threads + Wait + Sync, G: Gate + Sync, N: EndNumbering + Sync + Drop>(
     runner: &Runner<'_, R, G>,
-    codes: &[Option<Code>],
     tiling: &Tiling,
+    flows: Vec<TileExits>,
     numbers: N,
 ) -> Result<Vec<Count>, JobFault>
-    requires grid { IsGridFlow tiling.now.cols tiling.now.rows codes.now }
+    requires flows { (d : Directed) × AreFlowsOf d tiling.now flows.items }
     requires size { (N.numbers numbers).cells ≡ tiling.now.cols * tiling.now.rows }
     requires few { (i : ℕ) → i < (N.numbers numbers).cells →
         (N.numbers numbers).number i < uncounted }
-    ensures values { let d = make_directed tiling.now.cols tiling.now.rows codes.now in
-        IfOk result (λ v. IsMapOf d (end_number d (N.numbers numbers)) v.items) }
+    ensures values { IfOk result (λ v. (d : Directed) → AreFlowsOf d tiling.now flows.items →
+        IsMapOf d (end_number d (N.numbers numbers)) v.items) }
     ensures workers { RefusesWorkers runner.now.workers result }
 {
-    let flows = exit_tiles(runner, codes, tiling)?;
+    check_workers(runner.workers)?;
     let rim_graph = RimGraph::of(runner.alloc, tiling, &flows)?;
     let outlets = Outlets::of_flows(runner.alloc, tiling, &flows, &rim_graph)?;
     drop(rim_graph);

@@ -2,9 +2,9 @@
 //!
 //! A cell's link is the index of the next cell downstream, or its own index if none is in the tile.
 //! Its byte is a move: 4 times the rows down to that cell plus the columns right, each plus 1.
-ghost use Rattle.std.specs.Prelude.{◌≡◌, ◌↔◌, IsTrue, ◌+◌, ◌*◌, ◌<◌, length, IfOk, OnOk};
-ghost use Rattle.tiles.specs.Cutting.{IsInBounds, place_in};
-ghost use Rattle.flow.specs.TileLinks.{AreFirstMoves, IsMove, IsInteriorAt, EndsInLargestGrid, links_by};
+ghost use Rattle.std.specs.Prelude.{◌≡◌, ◌*◌, ◌≤◌, length, IfOk};
+ghost use Rattle.tiles.specs.Cutting.{IsInBounds, index_in};
+ghost use Rattle.flow.specs.TileLinks.{AreInteriorMoves, AreMovesOf, IsInteriorMove, IsMove, EndsInLargestGrid, links_by};
 
 use crate::cells::next_of;
 use crate::nodes::Links;
@@ -63,13 +63,12 @@ impl TileLinks {
         cells: &[Option<Code>],
     ) -> Result<TileLinks, AllocError>
         requires small { EndsInLargestGrid bounds }
+        requires some_row { 1 ≤ bounds.rows }
         requires size { length cells.now ≡ bounds.rows * bounds.cols }
         ensures { IfOk result (λ l. l ≡ links_by bounds cells.now) }
     {
-        let mut moves = Vec::with_capacity(alloc, cells.len())?;
-        for row in 0..bounds.rows {
-            push_moves(&mut moves, bounds, row, cells)?;
-        }
+        let mut moves = vec![in alloc; STAY; cells.len()]?;
+        set_moves(&mut moves, bounds, cells);
         Ok(TileLinks {
             cols: bounds.cols,
             moves,
@@ -77,63 +76,36 @@ impl TileLinks {
     }
 }
 
-#[inline(always)]
-fn push_moves(
-    moves: &mut Vec<u8>,
-    bounds: Bounds,
-    row: u32,
-    cells: &[Option<Code>],
-) -> Result<(), AllocError>
+/// Sets the moves of a tile's cells. Directions of rim cells may leave the tile.
+fn set_moves(moves: &mut [u8], bounds: Bounds, cells: &[Option<Code>])
     requires small { EndsInLargestGrid bounds }
+    requires some_row { 1 ≤ bounds.rows }
     requires size { length cells.now ≡ bounds.rows * bounds.cols }
-    requires row { row < bounds.rows }
-    requires moves { AreFirstMoves bounds cells.now (row * bounds.cols) moves.old.items }
-    ensures { OnOk result
-        (AreFirstMoves bounds cells.now ((row + 1) * bounds.cols) moves.new.items) }
+    requires moves { length moves.old ≡ length cells.now }
+    ensures { AreMovesOf bounds cells.now moves.new }
 {
-    let start = row * bounds.cols;
-    for col in 0..bounds.cols {
-        let index = start + col;
-        let to = move_at(bounds, row, col, cells[index as usize]);
-        moves.push(to)?;
+    set_interior_moves(moves, cells);
+    for side in 0..bounds.side_count() {
+        let place = bounds.side_place(bounds, side);
+        let index = bounds.index_of(place);
+        moves[index] = rim_move(bounds, place, cells[index]);
     }
-    Ok(())
 }
 
-#[inline(always)]
-fn move_at(bounds: Bounds, row: u32, col: u32, code: Option<Code>) -> u8
-    requires small { EndsInLargestGrid bounds }
-    requires row { row < bounds.rows }
-    requires col { col < bounds.cols }
-    ensures { IsMove bounds (row * bounds.cols + col) code result }
+/// Sets the move of each cell as if it were interior, which needs no place.
+fn set_interior_moves(moves: &mut [u8], cells: &[Option<Code>])
+    requires { length moves.old ≡ length cells.now }
+    ensures { AreInteriorMoves cells.now moves.new }
 {
-    if is_interior(bounds, row, col) {
-        return interior_move(bounds, row, col, code);
+    for index in 0..cells.len() {
+        moves[index] = interior_move(cells[index]);
     }
-    let place = Place {
-        row: bounds.top + row,
-        col: bounds.left + col,
-    };
-    rim_move(bounds, row * bounds.cols + col, place, code)
 }
 
-/// Returns whether a cell is interior: all eight places around it lie in the tile.
+/// Returns the move of an interior cell: all eight places around it lie in the tile.
 #[inline(always)]
-fn is_interior(bounds: Bounds, row: u32, col: u32) -> bool
-    requires small { EndsInLargestGrid bounds }
-    requires row { row < bounds.rows }
-    requires col { col < bounds.cols }
-    ensures { IsTrue result ↔ IsInteriorAt bounds row col }
-{
-    0 < row && row + 1 < bounds.rows && 0 < col && col + 1 < bounds.cols
-}
-
-/// Returns the move of an interior cell. No direction leaves the tile there.
-#[inline(always)]
-fn interior_move(bounds: Bounds, row: u32, col: u32, code: Option<Code>) -> u8
-    requires small { EndsInLargestGrid bounds }
-    requires interior { IsInteriorAt bounds row col }
-    ensures { IsMove bounds (row * bounds.cols + col) code result }
+fn interior_move(code: Option<Code>) -> u8
+    ensures { IsInteriorMove code result }
 {
     let Some(code) = code else {
         return STAY;
@@ -144,13 +116,12 @@ fn interior_move(bounds: Bounds, row: u32, col: u32, code: Option<Code>) -> u8
     }
 }
 
-/// Returns the move of a cell on the rim, at `place` with index `index`.
+/// Returns the move of a cell on the rim.
 #[inline(always)]
-fn rim_move(bounds: Bounds, index: u32, place: Place, code: Option<Code>) -> u8
+fn rim_move(bounds: Bounds, place: Place, code: Option<Code>) -> u8
     requires small { EndsInLargestGrid bounds }
     requires inside { IsInBounds bounds place }
-    requires place { place ≡ place_in bounds index }
-    ensures { IsMove bounds index code result }
+    ensures { IsMove bounds (index_in bounds place) code result }
 {
     let next = next_of(code, place);
     if bounds.contains(next) {

@@ -144,7 +144,6 @@ fn make_from_directions<H: Threads + Wait + Sync, G: Gate + Sync>(
         &directions,
         tiling,
     )?;
-    // Catchments take a list of codes of their own, so basins come when more is kept.
     let catchments = make_counts(
         runner,
         maps,

@@ -16,10 +16,10 @@ const WORDS_REFUSED: u8 = 1;
 
 const NO_MEMORY: u8 = 3;
 
-/// The length of the list that [`keep_freed_lists`] frees: 32 MiB less 8 KiB.
-/// With the allocator's header, rounded up to whole pages of 4 KiB, the list takes 32 MiB less
-/// 4 KiB. Freeing a list that takes over 32 MiB would not change what glibc keeps.
-const LONGEST_KEPT: usize = (1 << 25) - (1 << 13);
+/// The length of the list that [`keep_freed_lists`] frees: 16 MiB and 128 KiB.
+/// Lists of up to that length are then kept, among them 4 million counts. With 32 MiB, the most
+/// that glibc allows, four workers' `maps` of 16 million cells would peak 4 bytes a cell higher.
+const LONGEST_KEPT: usize = (1 << 24) + (1 << 17);
 
 /// Returns the exit status for unreadable words. Writes a line unless memory was refused.
 fn refuse_words(error: &io::Error, errors: &mut impl Write) -> u8 {

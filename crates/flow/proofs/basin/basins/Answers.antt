@@ -2,12 +2,19 @@ use Rattle.std.proofs.Common.{◌∙◌, arith, ap, subst, ◌*◌, ◌≤◌, �
 use Rattle.std.proofs.Math.Nat.{mul-le-mul}
 use Rattle.std.proofs.lemmas.Result.{IfOk-weaker}
 use Rattle.drainage.specs.Drained.{directed_of}
+use Rattle.drainage.specs.Following.{Directed}
 use Rattle.flow.specs.Counts.{AreBasins, IsMapOf}
 use Rattle.flow.specs.Whole.{directed_on}
+use Rattle.flow.specs.RimGraph.{AreFlowsOf}
 use Rattle.flow.specs.Numbering.{end_number, outlet_numbers}
 use Rattle.flow.proofs.Together.{directed_same, grid_flow}
 use Rattle.flow.proofs.Numbered.{outlet_number_few}
 use Rattle.flow.proofs.basin.basins.Goals as goal
+
+pub exit_tiles-requires-clause-grid : goal.exit_tiles-requires-clause-grid
+exit_tiles-requires-clause-grid g c κs within =
+    grid_flow c.args.tiling.now c.codes-codes.ensures.draining
+    c.requires c.codes-codes.ensures.value
 
 pub of_codes-requires : goal.of_codes-requires
 of_codes-requires g c =
@@ -18,10 +25,9 @@ of_codes-requires g c =
     c.requires c.codes-codes.ensures.value in
     omega (arith, most, flow.size)
 
-pub number_cells-requires-clause-grid : goal.number_cells-requires-clause-grid
-number_cells-requires-clause-grid g c κs within =
-    grid_flow c.args.tiling.now c.codes-codes.ensures.draining
-    c.requires c.codes-codes.ensures.value
+pub number_cells-requires-clause-flows : goal.number_cells-requires-clause-flows
+number_cells-requires-clause-flows g c κs within =
+    (directed_on c.args.tiling.now c.codes-codes.result.now, c.in_ok-flows.ensures.flows)
 
 pub number_cells-requires-clause-size : goal.number_cells-requires-clause-size
 number_cells-requires-clause-size g c κs within =
@@ -45,10 +51,11 @@ returns-clause-values g c =
     let codes = c.codes-codes.result.now in
     let d = directed_on t codes in
     IfOk-weaker c.number_cells.result (λ (v : Vec (Option ℕ) Global).
+    (d : Directed) → AreFlowsOf d t c.in_ok-flows.flows.items →
     IsMapOf d (end_number d (outlet_numbers c.in_ok-numbers.numbers)) v.items)
     (λ (v : Vec (Option ℕ) Global). AreBasins (directed_of c.args.d.now) v.items)
     (λ v made. subst (λ x. AreBasins x v.items)
     (directed_same c.args.d.now t c.requires c.codes-codes.ensures.value)
     (subst (λ l. IsMapOf d (end_number d (outlet_numbers l)) v.items)
-    c.in_ok-numbers.ensures made))
+    c.in_ok-numbers.ensures (made d c.in_ok-flows.ensures.flows)))
     c.number_cells.ensures.values

@@ -30,8 +30,8 @@ of_gauges-requires-clause-within g c k d below =
     (sym c.first_fault.ensures ∙ c.in_default.is) k d below in
     (omega (arith, sound.0.0, c.requires.1), omega (arith, sound.0.1, c.requires.0))
 
-pub number_cells-requires-clause-grid : goal.number_cells-requires-clause-grid
-number_cells-requires-clause-grid g c κs within =
+pub exit_tiles-requires-clause-grid : goal.exit_tiles-requires-clause-grid
+exit_tiles-requires-clause-grid g c κs within =
     let t = c.args.tiling.now in
     let codes = c.codes.result.now in
     let flow =
@@ -44,6 +44,10 @@ number_cells-requires-clause-grid g c κs within =
       ends = cut_ends (ending_of d flow.ends c.in_ok-codes.ensures.cutting
           (refl, refl)) coded c.in_ok-codes.ensures.cut;
     })
+
+pub number_cells-requires-clause-flows : goal.number_cells-requires-clause-flows
+number_cells-requires-clause-flows g c κs within =
+    (directed_on c.args.tiling.now c.deref.result.now, c.in_ok-flows.ensures.flows)
 
 pub number_cells-requires-clause-few : goal.number_cells-requires-clause-few
 number_cells-requires-clause-few g c κs within i below =
@@ -72,5 +76,6 @@ returns-clause-values g c =
     catchments_are (ending_of d flow.ends c.in_ok-codes.ensures.cutting
     (refl, refl)) coded c.in_ok-codes.ensures.cut n
     (λ i. ap or_zero (c.in_ok-numbers.ensures.numbers i))
-    (rw c.deref.ensures.value at c.in_ok-values.ensures.values)
+    (c.in_ok-values.ensures.values (directed_on t c.in_ok-codes.codes.items)
+    (rw c.deref.ensures.value at c.in_ok-flows.ensures.flows))
     ))

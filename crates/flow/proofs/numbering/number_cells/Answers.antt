@@ -1,35 +1,37 @@
-use Rattle.std.proofs.Common.{ℕ, Option, Vec, Global, refl}
+use Rattle.std.proofs.Common.{ℕ, Option, Vec, Global, sym}
 use Rattle.std.proofs.lemmas.Result.{IfOk-weaker}
 use Rattle.tile_maps.specs.Maps.{IsMadeMap}
-use Rattle.tile_maps.proofs.Whole.{entry_of_map}
+use Rattle.tile_maps.proofs.Whole.{map_of_size}
+use Rattle.drainage.specs.Following.{Directed}
 use Rattle.flow.specs.Counts.{IsMapOf}
-use Rattle.flow.specs.Whole.{directed_on}
+use Rattle.flow.specs.RimGraph.{AreFlowsOf}
 use Rattle.flow.specs.Numbering.{IsEndNumberAt, end_number}
 use Rattle.flow.proofs.Numbered.{numbering_of, ready}
 use Rattle.flow.proofs.numbering.number_cells.Goals as goal
 
 pub invariant_of-map_tiles : goal.invariant_of-map_tiles
 invariant_of-map_tiles g c = record {
-  ready = ready (numbering_of c.args.codes.now _
-      (g.N.EndNumbering.numbers c.args.numbers)
-      c.in_ok-flows.ensures.flows refl c.in_ok-outlets.ensures.cutting
-      c.in_ok-outlets.ensures.outlets c.requires.size c.requires.few);
+  ready = ready (numbering_of c.in_ok-outlets.outlets (g.N.EndNumbering.numbers c.args.numbers)
+      c.requires.flows.1 c.in_ok-outlets.ensures.cutting c.in_ok-outlets.ensures.outlets
+      c.requires.size c.requires.few);
 }
 
 pub returns-clause-values : goal.returns-clause-values
 returns-clause-values g c =
     let t = c.args.tiling.now in
-    let d = directed_on t c.args.codes.now in
+    let flows = c.args.flows.items in
+    let o = c.in_ok-outlets.outlets in
     let n = g.N.EndNumbering.numbers c.args.numbers in
-    let numbering = numbering_of c.args.codes.now _ n c.in_ok-flows.ensures.flows
-    refl c.in_ok-outlets.ensures.cutting
-    c.in_ok-outlets.ensures.outlets c.requires.size c.requires.few in
     IfOk-weaker c.map_tiles.result (λ (v : Vec (Option ℕ) Global).
-    IsMadeMap t (IsEndNumberAt t c.in_ok-flows.flows.items c.in_ok-outlets.outlets n) v.items)
-    (λ (v : Vec (Option ℕ) Global). IsMapOf d (end_number d n) v.items)
-    (λ v made. record {
-      size = made.size;
-      each = λ p i. entry_of_map t (IsEndNumberAt t c.in_ok-flows.flows.items
-          c.in_ok-outlets.outlets n) v.items made p i d numbering;
+    IsMadeMap t (IsEndNumberAt t flows o n) v.items)
+    (λ (v : Vec (Option ℕ) Global). (d : Directed) → AreFlowsOf d t flows →
+    IsMapOf d (end_number d n) v.items)
+    (λ v made d are.
+    let whole = map_of_size t d.cols d.rows (IsEndNumberAt t flows o n) v.items (sym are.of_tiles.size.0)
+    (sym are.of_tiles.size.1) made in
+    record {
+      size = whole.0;
+      each = λ p i. whole.1 p i d (numbering_of o n are c.in_ok-outlets.ensures.cutting
+          c.in_ok-outlets.ensures.outlets c.requires.size c.requires.few);
     })
     c.map_tiles.ensures.made

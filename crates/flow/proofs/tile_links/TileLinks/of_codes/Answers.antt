@@ -1,19 +1,19 @@
-use Rattle.std.proofs.Common.{◌≡◌, ℕ, ◌*◌, ◌≤◌, List, Option, arith}
-use Rattle.tiles.specs.declared.bounds.Bounds.{Bounds}
-use Rattle.flow.specs.TileLinks.{AreFirstMoves}
+use Rattle.std.proofs.Common.{◌≡◌, drop, length, subst, sym, ◌∙◌}
+use Rattle.std.proofs.lemmas.List.{take_at}
+use Rattle.flow.specs.TileLinks.{AreMoves, moved_by, links_by}
 use Rattle.flow.proofs.Moved.{moves_fit, moved_links}
 use Rattle.flow.proofs.tile_links.TileLinks.of_codes.Goals as goal
 
-all_rows : {b : Bounds} {cells : List (Option ℕ)} {moves : List ℕ} (row : ℕ) → row ≤ b.rows → b.rows ≤ row →
-    AreFirstMoves b cells (row * b.cols) moves → AreFirstMoves b cells (b.rows * b.cols) moves
-all_rows {b} row le ge s =
-    let same : row ≡ b.rows = omega arith in
-    rw same at s
-
 pub invariant_of-result : goal.invariant_of-result
-invariant_of-result c = moves_fit c.requires.small
-    (all_rows c.loop-row.row c.loop-row.auto.row-end c.loop-row-test.false c.loop-row.invariant)
+invariant_of-result c =
+    let new = c.set_moves.new.moves in
+    subst (λ moves. AreMoves c.args.bounds.cols moves)
+    (sym (take_at new (drop (length new) c.in_ok-moves.moves.items) c.in_ok-moves.moves.len
+    (c.set_moves.auto.moves ∙ c.deref_mut.ensures.len))) (moves_fit c.requires.small c.set_moves.ensures)
 
 pub returns : goal.returns
-returns c = moved_links c.requires.small
-    (all_rows c.loop-row.row c.loop-row.auto.row-end c.loop-row-test.false c.loop-row.invariant)
+returns c =
+    let new = c.set_moves.new.moves in
+    subst (λ moves. moved_by c.args.bounds.cols moves ≡ links_by c.args.bounds c.args.cells.now)
+    (sym (take_at new (drop (length new) c.in_ok-moves.moves.items) c.in_ok-moves.moves.len
+    (c.set_moves.auto.moves ∙ c.deref_mut.ensures.len))) (moved_links c.requires.small c.set_moves.ensures)
