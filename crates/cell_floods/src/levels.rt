@@ -1,12 +1,10 @@
 //! The levels of a tile's cells, in 2 or 4 bytes each wherever they fit: [`Levels`].
-ghost use Rattle.std.specs.Prelude.{ℤ, ◌≡◌, ◌+◌, ◌*◌, ◌<◌, ◌≤◌, ◌++◌, pos, length, map, slice_index_or, IfOk, IfSome};
-ghost use Rattle.std.specs.Bool.{OnTrue};
-ghost use Rattle.floods.specs.Notes.{height_or_lack};
+ghost use Rattle.std.specs.Prelude.{ℤ, ◌≡◌, ◌+◌, ◌*◌, ◌<◌, ◌≤◌, pos, length, map, slice_index_or, IfOk, IfSome};
+ghost use Rattle.floods.specs.Notes.{height_or_lack, no_label};
 ghost use Rattle.cell_floods.specs.Cells.{inner_rows};
 ghost use Rattle.cell_floods.specs.Levels.{height_above, no_short};
-ghost use Rattle.floods.specs.Notes.{no_label};
 
-use crate::cell_net::{inner_row, without_border};
+use crate::cell_net::without_border;
 use std::alloc::{AllocError, Global};
 use std::marker::Model;
 use terrain::{Cell, Height, NO_DATA};
@@ -51,6 +49,18 @@ trait HeightAbove: Copy + Drop {
         ensures { result ≡ stored lowest self };
 }
 
+/// Returns the level at this height above `lowest`, [`NO_DATA`] if the height is `none`.
+#[inline(always)]
+fn level_above(none: u32, lowest: Height, above: u32) -> Height
+    ensures { result ≡ height_above none lowest above }
+{
+    if above == none {
+        NO_DATA
+    } else {
+        lowest.wrapping_add(above as Height)
+    }
+}
+
 impl HeightAbove for u16 {
     ghost stored = { height_above no_short };
 
@@ -65,11 +75,7 @@ impl HeightAbove for u16 {
 
     #[inline(always)]
     fn level(self, lowest: Height) -> Height {
-        if self == u16::MAX {
-            NO_DATA
-        } else {
-            lowest.wrapping_add(self as Height)
-        }
+        level_above(u16::MAX as u32, lowest, self as u32)
     }
 }
 
@@ -86,35 +92,33 @@ impl HeightAbove for u32 {
 
     #[inline(always)]
     fn level(self, lowest: Height) -> Height {
-        if self == u32::MAX {
-            NO_DATA
-        } else {
-            lowest.wrapping_add(self as Height)
-        }
+        level_above(u32::MAX, lowest, self)
     }
 }
 
-/// Adds the levels of a row, and returns `false` where no number stores one.
-fn push_row<N: HeightAbove>(
-    above: &mut Vec<N>,
+/// Returns the number that stores each level; `None` if one level has no such number.
+fn numbers_above<N: HeightAbove>(
+    alloc: Global,
+    levels: &[Cell],
     lowest: Height,
-    row: &[Cell],
-) -> Result<bool, AllocError>
-    ensures { IfOk result (λ all. OnTrue all (map (N.stored lowest) above.new.items
-        ≡ map (N.stored lowest) above.old.items ++ map height_or_lack row.now)) }
+) -> Result<Option<Vec<N>>, AllocError>
+    ensures { IfOk result (λ found. IfSome found (λ v.
+        map (N.stored lowest) v.items ≡ map height_or_lack levels.now)) }
 {
-    for cell in row {
-        let number = N::nearest(lowest, cell.number());
-        if number.level(lowest) != cell.number() {
-            return Ok(false);
+    let mut above = vec![in alloc; N::nearest(lowest, lowest); levels.len()]?;
+    for node in 0..levels.len() {
+        let level = levels[node].number();
+        let number = N::nearest(lowest, level);
+        if number.level(lowest) != level {
+            return Ok(None);
         }
-        above.push(number)?;
+        above[node] = number;
     }
-    Ok(true)
+    Ok(Some(above))
 }
 
-/// Returns the levels inside the border, each above `lowest`; `None` if one does not fit.
-fn levels_above<N: HeightAbove>(
+/// Returns the numbers that store the levels inside the border; `None` if one has no such number.
+fn inner_numbers<N: HeightAbove>(
     alloc: Global,
     levels: &[Cell],
     lowest: Height,
@@ -127,13 +131,10 @@ fn levels_above<N: HeightAbove>(
     ensures { IfOk result (λ found. IfSome found (λ v. map (N.stored lowest) v.items
         ≡ map height_or_lack (inner_rows levels.now cols rows))) }
 {
-    let mut above = Vec::with_capacity(alloc, rows as usize * cols as usize)?;
-    for row in 0..rows {
-        if !push_row(&mut above, lowest, inner_row(levels, cols, rows, row))? {
-            return Ok(None);
-        }
-    }
-    Ok(Some(above))
+    let Some(above) = numbers_above(alloc, levels, lowest)? else {
+        return Ok(None);
+    };
+    Ok(Some(without_border(alloc, &above, cols, rows)?))
 }
 
 /// Returns the number of each cell, [`NO_DATA`] for one without data.
@@ -172,11 +173,11 @@ impl Levels {
         requires few_rows { rows ≤ 4096 }
         ensures { IfOk result (λ l. l ≡ map height_or_lack (inner_rows levels.now cols rows)) }
     {
-        if let Some(near) = levels_above(alloc, levels, lowest, cols, rows)? {
+        if let Some(near) = inner_numbers(alloc, levels, lowest, cols, rows)? {
             let stored = StoredLevels::Near(near);
             return Ok(Levels { lowest, stored });
         }
-        if let Some(above) = levels_above(alloc, levels, lowest, cols, rows)? {
+        if let Some(above) = inner_numbers(alloc, levels, lowest, cols, rows)? {
             let stored = StoredLevels::Above(above);
             return Ok(Levels { lowest, stored });
         }

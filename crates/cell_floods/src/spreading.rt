@@ -11,14 +11,14 @@
 //! The order of the nodes carries no promise. So the end certifies the flood: there is none where a
 //! node was taken below the level that the flood had come to, or where a labelled one did not
 //! spread.
-ghost use Rattle.std.specs.Prelude.{◌≡◌, ◌<◌, [], ℕ, ℤ, All, IfOk, IfSome, IsSome, OnOk, Some, false, length, slice_index_or, true, unwrap_or};
+ghost use Rattle.std.specs.Prelude.{◌≡◌, ◌≢◌, ◌<◌, [], ℕ, ℤ, All, IfOk, IfSome, IsSome, None, OnOk, Some, false, length, slice_index_or, true, unwrap_or};
 ghost use Rattle.std.specs.Bool.{OnTrue};
 ghost use Rattle.std.specs.Int.{int_max};
 ghost use Rattle.terrain.specs.StoredCells.{no_data};
 ghost use Rattle.floods.specs.Flood.{entry_of};
 ghost use Rattle.floods.specs.Notes.{no_label, numbered_labels};
 ghost use Rattle.floods.specs.Walk.{IsFlooded};
-ghost use Rattle.cell_floods.specs.Cells.{IsCellJoin, source_of};
+ghost use Rattle.cell_floods.specs.Cells.{IsCellJoin, cell_at, source_of};
 ghost use Rattle.cell_floods.specs.Spreading.{AreMeetings, HasSources, IsNodeMeeting, IsPartFlood, Reaches, Spreads, level_of, number_of};
 
 use crate::cell_net::CellNet;
@@ -143,23 +143,20 @@ impl<'a> Spreading<'a> {
         Ok(())
     }
 
-    /// Labels node `to`, which has no label, from a node of this label and level, if it is a data
-    /// cell. Opens it where its level is that of the other node.
+    /// Labels node `to`, a data cell without a label, from a node of this label and level.
+    /// Opens it where its level is that of the other node.
     #[inline(never)]
-    fn label_cell(&mut self, to: u32, label: u32, level: Cell) -> Result<(), AllocError>
+    fn label_cell(&mut self, to: u32, cell: Cell, label: u32, level: Cell) -> Result<(), AllocError>
         requires to { to < length self.old.net.now.cells }
+        requires cell { (cell ≡ cell_at self.old.net.now to) × IsSome cell }
         requires sizes { (now : ℤ) × IsPartFlood now self.old }
-        requires unlabelled { number_of self.old.labels.items to ≡ no_label }
+        requires unlabelled { entry_of self.old.levels.items to ≡ None }
         requires level { IsSome level }
         ensures { OnOk result (Reaches (unwrap_or level no_data) label to self.old self.new) }
     {
-        let cell = self.net.cells()[to as usize];
-        let Some(height) = cell.height() else {
-            return Ok(());
-        };
         self.labels[to as usize] = label;
         self.levels[to as usize] = higher(cell, level);
-        if height <= level.number() {
+        if cell.number() <= level.number() {
             self.waiting.push(to)?;
         }
         Ok(())
@@ -182,7 +179,11 @@ impl<'a> Spreading<'a> {
             return Ok(());
         }
         if own == NO_LABEL {
-            return self.label_cell(to, label, level);
+            let cell = self.net.cells()[to as usize];
+            if cell.height().is_none() {
+                return Ok(());
+            }
+            return self.label_cell(to, cell, label, level);
         }
         if self.sets.set_of(own) == set {
             return Ok(());
@@ -220,6 +221,7 @@ impl<'a> Spreading<'a> {
     }
 
     /// Lets a labelled node spread, and then all nodes that this opens.
+    #[inline(always)]
     fn spread_from(&mut self, first: u32) -> Result<(), AllocError>
         requires labelled { IsSome (entry_of self.old.levels.items first) }
         requires part { IsPartFlood (level_of self.old first) self.old }
@@ -250,16 +252,17 @@ impl<'a> Spreading<'a> {
 
     /// Returns whether all labelled nodes have spread.
     fn is_complete(&self) -> bool
-        requires { length self.now.has_spread.items ≡ length self.now.levels.items }
-        ensures { OnTrue result ((a : ℕ) → IsSome (entry_of self.now.levels.items a) →
+        requires { length self.now.has_spread.items ≡ length self.now.labels.items }
+        ensures { OnTrue result ((a : ℕ) → a < length self.now.labels.items →
+            number_of self.now.labels.items a ≢ no_label →
             slice_index_or self.now.has_spread.items a false ≡ true) }
     {
-        for index in 0..self.levels.len() {
-            if self.levels[index].height().is_some() && !self.has_spread[index] {
-                return false;
-            }
+        let mut all = true;
+        for node in 0..self.labels.len() {
+            // No branch, so that several nodes are tested at once.
+            all &= (self.labels[node] == NO_LABEL) | self.has_spread[node];
         }
-        true
+        all
     }
 }
 
