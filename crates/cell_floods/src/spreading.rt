@@ -192,6 +192,7 @@ impl<'a> Spreading<'a> {
     }
 
     /// Lets a labelled node spread.
+    #[inline(always)]
     fn spread(&mut self, node: u32) -> Result<(), AllocError>
         requires labelled { IsSome (entry_of self.old.levels.items node) }
         requires part { IsPartFlood (level_of self.old node) self.old }
@@ -229,11 +230,12 @@ impl<'a> Spreading<'a> {
         ensures { OnOk result (Spreads (level_of self.old first) self.old self.new) }
     {
         let level = self.levels[first as usize];
-        self.spread(first)?;
-        while let Some(node) = self.waiting.pop() {
+        let mut next = Some(first);
+        while let Some(node) = next {
             if self.is_at(node, level) {
                 self.spread(node)?;
             }
+            next = self.waiting.pop();
         }
         Ok(())
     }

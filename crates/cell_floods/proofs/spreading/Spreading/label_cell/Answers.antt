@@ -1,4 +1,4 @@
-use Rattle.std.proofs.Common.{inl, inr, ◌≡◌, ℤ, Bool, List, Option, Some, IsSome, set, ap, refl, ◌∙◌, sym, length, arith}
+use Rattle.std.proofs.Common.{inl, inr, ◌≡◌, ℕ, ℤ, Bool, List, Option, Some, IsSome, set, ap, refl, ◌∙◌, sym, length, arith}
 use Rattle.std.proofs.lemmas.List.{length_push}
 use Rattle.terrain.proofs.Options.{cases_option, none_done}
 use Rattle.cell_floods.specs.Cells.{Cells}
@@ -21,7 +21,7 @@ returns-in_ok-push c =
         unlabelled = c.requires.unlabelled;
         levels = ap (set c.args.self.now.levels.items c.args.to)
             (c.higher.ensures found.0 found.1 c.requires.level);
-        labels = refl;
+        labels = refl {A = List ℕ};
         waiting = omega (
           arith,
           ap length c.in_ok-push.ensures.items,
