@@ -82,7 +82,12 @@ fn any_gap(cells: &[Cell], around: &[u32; 8]) -> bool
     requires { All (λ b. b < length cells.now) around.now }
     ensures { result ≡ list_any (λ b. is_none (slice_index_or cells.now b None)) around.now }
 {
-    around.iter().any(|&node| is_gap(cells, node))
+    let mut any = false;
+    for node in around {
+        // No branch: among holes it would be guessed wrong.
+        any |= is_gap(cells, *node);
+    }
+    any
 }
 
 /// Returns the arc from a cell of this height to node `to`, if `to` has data.
@@ -117,7 +122,12 @@ fn arcs_to(alloc: Global, cells: &[Cell], height: Height, around: [u32; 8]) -> S
 pub(crate) fn have_data(cells: &[Cell]) -> bool
     ensures { IsTrue result ↔ EachIndex cells.now (λ k. IsSome (slice_index_or cells.now k None)) }
 {
-    cells.iter().all(|cell| cell.height().is_some())
+    let mut all = true;
+    for cell in cells {
+        // No branch: among holes it would be guessed wrong.
+        all &= cell.height().is_some();
+    }
+    all
 }
 
 #[inline(always)]
@@ -263,15 +273,10 @@ impl CellNet {
         around(self.stride, node)
     }
 
-    /// Returns whether a data cell is on the rim of the rectangle.
-    pub(crate) fn is_on_rim(&self, node: u32) -> bool {
-        // No net has a stride of 0: the greater of it and 1 spares a proof.
-        let col = node % self.stride.max(1);
-        let rows = 2 * self.stride as usize;
-        col == 1
-            || col + 2 == self.stride
-            || (node as usize) < rows
-            || node as usize + rows >= self.cells.len()
+    /// Returns the number of nodes in a row, its two border nodes included.
+    #[inline(always)]
+    pub(crate) fn stride(&self) -> u32 {
+        self.stride
     }
 
     /// Returns a node from `from` on, or the node count.

@@ -31,8 +31,9 @@ impl LabelSets {
         }
     }
 
+    /// Puts a node under another one of its set, a lower one, or under itself.
     #[inline(always)]
-    fn set_parent(&mut self, node: u32, parent: u32) {
+    pub(crate) fn set_parent(&mut self, node: u32, parent: u32) {
         if let Some(own) = self.parents.get_mut(node as usize) {
             *own = parent;
         }

@@ -11,14 +11,14 @@
 //! The order of the nodes carries no promise. So the end certifies the flood: there is none where a
 //! node was taken below the level that the flood had come to, or where a labelled one did not
 //! spread.
-ghost use Rattle.std.specs.Prelude.{◌≡◌, ◌≢◌, ◌<◌, [], ℕ, ℤ, All, IfOk, IfSome, IsSome, None, OnOk, Some, false, length, slice_index_or, true, unwrap_or};
+ghost use Rattle.std.specs.Prelude.{◌≡◌, ◌≢◌, ◌<◌, [], ℕ, ℤ, All, IfOk, IfSome, IsSome, OnOk, Some, false, length, slice_index_or, true, unwrap_or};
 ghost use Rattle.std.specs.Bool.{OnTrue};
 ghost use Rattle.std.specs.Int.{int_max};
 ghost use Rattle.terrain.specs.StoredCells.{no_data};
 ghost use Rattle.floods.specs.Flood.{entry_of};
 ghost use Rattle.floods.specs.Notes.{no_label, numbered_labels};
 ghost use Rattle.floods.specs.Walk.{IsFlooded};
-ghost use Rattle.cell_floods.specs.Cells.{IsCellJoin, cell_at, source_of};
+ghost use Rattle.cell_floods.specs.Cells.{IsCellJoin, source_of};
 ghost use Rattle.cell_floods.specs.Spreading.{AreMeetings, HasSources, IsNodeMeeting, IsPartFlood, Reaches, Spreads, level_of, number_of};
 
 use crate::cell_net::CellNet;
@@ -74,11 +74,23 @@ fn higher(cell: Cell, level: Cell) -> Cell
     }
 }
 
-/// Unites a source with the end cells unless it is on the rim.
-fn unite_ends(sets: &mut LabelSets, net: &CellNet, source: u32) {
-    if !net.is_on_rim(source) {
-        sets.unite(ENDS, source);
+/// Makes each of some nodes a set of its own: `first`, and others by steps of `step`.
+fn part_line(sets: &mut LabelSets, first: u32, step: u32, count: u32) {
+    for index in 0..count {
+        let node = first.wrapping_add(index.wrapping_mul(step));
+        sets.set_parent(node, node);
     }
+}
+
+/// Takes the nodes of the rim out of the set of the end cells.
+fn part_rim(sets: &mut LabelSets, net: &CellNet) {
+    let (stride, nodes) = (net.stride(), net.nodes());
+    // No net has a stride of 0: the greater of it and 1 spares a proof.
+    let rows = nodes / stride.max(1);
+    part_line(sets, stride, 1, stride);
+    part_line(sets, nodes.wrapping_sub(stride.wrapping_mul(2)), 1, stride);
+    part_line(sets, 1, stride, rows);
+    part_line(sets, stride.wrapping_sub(2), stride, rows);
 }
 
 impl<'a> Spreading<'a> {
@@ -115,10 +127,11 @@ impl<'a> Spreading<'a> {
             if net.source(node).is_some() {
                 spreading.levels[node as usize] = net.cells()[node as usize];
                 spreading.labels[node as usize] = node;
-                unite_ends(&mut spreading.sets, net, node);
+                spreading.sets.set_parent(node, ENDS);
             }
             node = net.next_candidate(node + 1);
         }
+        part_rim(&mut spreading.sets, net);
         Ok(spreading)
     }
 
@@ -143,20 +156,23 @@ impl<'a> Spreading<'a> {
         Ok(())
     }
 
-    /// Labels node `to`, a data cell without a label, from a node of this label and level.
-    /// Opens it where its level is that of the other node.
+    /// Labels node `to`, which has no label, from a node of this label and level, if it is a data
+    /// cell. Opens it where its level is that of the other node.
     #[inline(never)]
-    fn label_cell(&mut self, to: u32, cell: Cell, label: u32, level: Cell) -> Result<(), AllocError>
+    fn label_cell(&mut self, to: u32, label: u32, level: Cell) -> Result<(), AllocError>
         requires to { to < length self.old.net.now.cells }
-        requires cell { (cell ≡ cell_at self.old.net.now to) × IsSome cell }
         requires sizes { (now : ℤ) × IsPartFlood now self.old }
-        requires unlabelled { entry_of self.old.levels.items to ≡ None }
+        requires unlabelled { number_of self.old.labels.items to ≡ no_label }
         requires level { IsSome level }
         ensures { OnOk result (Reaches (unwrap_or level no_data) label to self.old self.new) }
     {
+        let cell = self.net.cells()[to as usize];
+        let Some(height) = cell.height() else {
+            return Ok(());
+        };
         self.labels[to as usize] = label;
         self.levels[to as usize] = higher(cell, level);
-        if cell.number() <= level.number() {
+        if height <= level.number() {
             self.waiting.push(to)?;
         }
         Ok(())
@@ -179,11 +195,7 @@ impl<'a> Spreading<'a> {
             return Ok(());
         }
         if own == NO_LABEL {
-            let cell = self.net.cells()[to as usize];
-            if cell.height().is_none() {
-                return Ok(());
-            }
-            return self.label_cell(to, cell, label, level);
+            return self.label_cell(to, label, level);
         }
         if self.sets.set_of(own) == set {
             return Ok(());
@@ -192,7 +204,6 @@ impl<'a> Spreading<'a> {
     }
 
     /// Lets a labelled node spread.
-    #[inline(always)]
     fn spread(&mut self, node: u32) -> Result<(), AllocError>
         requires labelled { IsSome (entry_of self.old.levels.items node) }
         requires part { IsPartFlood (level_of self.old node) self.old }

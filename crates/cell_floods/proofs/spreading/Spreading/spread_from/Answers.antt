@@ -21,5 +21,6 @@ loop-next-init c =
     }
 
 pub returns : goal.returns
-returns c = subst (λ o. Spreads (unwrap_or o no_data) c.args.self.now c.loop-next.self) (sym c.loop-next.invariant.level)
-    c.loop-next.invariant.spread
+returns c =
+    let end = c.loop-next.invariant in
+    subst (λ o. Spreads (unwrap_or o no_data) c.args.self.now c.loop-next.self) (sym end.level) end.spread
