@@ -30,6 +30,9 @@ DESCRIPTIONS = {
     "streams": "1: a stream",
 }
 
+# Differences of other values take more time to compress and more bytes: of areas each half as much again.
+SMOOTH = ("fill", "rise")
+
 Say = Callable[[str], None]
 
 
@@ -75,8 +78,7 @@ class Draft:
         assert result is not None
         self.file = GeoTiff(result.dtype, self.terrain.frame, result.nodata, result.unit,
                             self.bands, self.metadata, styles.color_table(self.job.map),
-                            # Basins take half the time to compress, and 4 % more bytes.
-                            has_names=styles.needs_numbers(self.job.map))
+                            is_smooth=self.job.map in SMOOTH)
         # A strip is compressed while the next one is worked out.
         self.puts = Behind(self.file.put)
 

@@ -44,15 +44,15 @@ class GeoTiff:
         descriptions: what the values are, of each band.
         metadata: texts by name.
         colors: of bytes, the colour of each value.
-        has_names: whether values name what a cell belongs to, and are no amounts.
+        is_smooth: whether values differ little from cell to cell, as heights do.
     """
 
     def __init__(self, dtype: np.dtype, frame: Frame, nodata: Optional[float], unit: str, descriptions: Sequence[str],
                  metadata: Mapping[str, str], colors: Optional[Mapping[int, Color]] = None,
-                 has_names: bool = False) -> None:
+                 is_smooth: bool = False) -> None:
         self.memory = memory_name("tif")
         threads = GDAL_THREADS if dtype.itemsize <= 4 else PROCESSORS
-        options = [*LAYOUT, f"PREDICTOR={1 if has_names else _predictor(dtype)}", f"NUM_THREADS={threads}"]
+        options = [*LAYOUT, f"PREDICTOR={_predictor(dtype) if is_smooth else 1}", f"NUM_THREADS={threads}"]
         with raised_errors():
             driver = gdal.GetDriverByName("GTiff")
             self.dataset = driver.Create(self.memory, frame.cols, frame.rows, len(descriptions), _gdal_type(dtype),
@@ -101,10 +101,7 @@ class GeoTiff:
 
 
 def _predictor(dtype: np.dtype) -> int:
-    """How values are prepared for compression: 1 not at all, 2 as differences, 3 by the bytes of floats."""
-    if dtype.itemsize == 1:
-        # Differences of codes compress worse than codes.
-        return 1
+    """How smooth values are prepared for compression: 2 as differences, 3 by the bytes of floats."""
     # Heights with few decimals as 32-bit floats: an eighth fewer bytes than by 3, in six tenths of the time.
     return 3 if dtype.kind == "f" and dtype.itemsize > 4 else 2
 

@@ -17,7 +17,7 @@ from .heights import Heights
 HEADER_LINES = 6
 ZERO, NINE, MINUS, SPACE, LINE_FEED = b"09- \n"
 # What is read at once, in bytes, for the same reason as blocks; how many rows are given on at once.
-PIECE = 1 << 20
+PIECE = 1 << 19
 STRIP = 256
 # Of a header, whose first word is ncols.
 FIRST_LETTER = b"n"

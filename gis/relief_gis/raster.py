@@ -13,7 +13,7 @@ import numpy as np
 from osgeo import gdal, osr
 
 from . import cures
-from .blocks import THREADS, data_ends, for_rows, row_blocks
+from .blocks import MOST_THREADS, PROCESSORS, data_ends, for_rows, row_blocks
 from .errors import DeviceError, InputError, UsageError
 from .frame import Bounds, Frame, Geotransform, Window, reference_of
 from .gdal_errors import raised_errors
@@ -324,7 +324,8 @@ def _values_of(dataset: gdal.Dataset, source: cures.Source, window: Window) -> n
                 chosen.FlushCache()
 
     # A dataset is read by one thread at a time, and files of GeoTIFF are opened again for others.
-    count = min(THREADS, len(parts)) if dataset.GetDriver().ShortName == "GTiff" and os.path.isfile(source.path) else 1
+    most = min(PROCESSORS, MOST_THREADS, len(parts))
+    count = most if dataset.GetDriver().ShortName == "GTiff" and os.path.isfile(source.path) else 1
     shares = [parts[len(parts) * at // count:len(parts) * (at + 1) // count] for at in range(count)]
     datasets = [dataset, *(gdal.OpenEx(source.path, gdal.OF_RASTER) for _ in shares[1:])]
     with ThreadPoolExecutor(count) as pool:

@@ -52,7 +52,10 @@ class Numbers:
         self._is_there = np.zeros(MOST_CLASSES + 2, bool)
 
     def add(self, values: np.ndarray) -> None:
-        """Adds those of rows."""
+        """Adds those of rows, as long as a legend has all."""
+        if self._is_there[-1]:
+            return
+
         def mark(rows: slice) -> None:
             self._is_there[np.clip(values[rows], 0, MOST_CLASSES + 1)] = True
 
