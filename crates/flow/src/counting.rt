@@ -19,7 +19,7 @@ use crate::inflows::Inflows;
 use crate::rim_graph::RimGraph;
 use crate::streams::{totals_of_few, zeros};
 use crate::tile::TileFlow;
-use crate::tile_links::TileLinks;
+use crate::tile_links::{TileLinks, count_where_data};
 use drainage::Directions;
 use std::alloc::{AllocError, Global};
 use std::sync::Wait;
@@ -169,9 +169,10 @@ fn set_counts(values: &mut [Count], links: &TileLinks, totals: &[u32], added: &[
     ensures { values.new ≡ counts_by links.now.codes
         (λ i. slice_index totals.now i + slice_index added.now i) }
 {
+    let moves = links.moves();
     for index in 0..values.len() {
         let total = totals[index] + added[index];
         // The total of NODATA is 0, hence `saturating_sub`.
-        values[index] = links.count_where_data(index, total.saturating_sub(1));
+        values[index] = count_where_data(moves[index], total.saturating_sub(1));
     }
 }

@@ -15,7 +15,7 @@ use crate::end_numbers::EndNumbering;
 use crate::outlets::Outlets;
 use crate::rim_graph::RimGraph;
 use crate::tile_exits::TileExits;
-use crate::tile_links::TileLinks;
+use crate::tile_links::{TileLinks, count_where_data};
 use std::alloc::{AllocError, Global};
 use std::sync::Wait;
 use std::thread::Threads;
@@ -150,7 +150,8 @@ fn set_numbers(values: &mut [Count], links: &TileLinks, numbers: &[u32])
     requires few { (i : ℕ) → i < length links.now.codes → slice_index numbers.now i < uncounted }
     ensures { values.new ≡ cell_numbers_by links.now.codes numbers.now }
 {
+    let moves = links.moves();
     for index in 0..values.len() {
-        values[index] = links.count_where_data(index, numbers[index]);
+        values[index] = count_where_data(moves[index], numbers[index]);
     }
 }

@@ -3,7 +3,7 @@
 //! A cell's link is the index of the next cell downstream, or its own index if none is in the tile.
 //! Its byte is a move: 64 times the rows down to that cell, plus the columns right, each plus 1,
 //! plus 4 times the number of its code: the direction, 8 for an outlet, 9 for NODATA.
-ghost use Rattle.std.specs.Prelude.{◌≡◌, ◌*◌, ◌≤◌, ◌<◌, length, map, is_some, None, slice_index_or, if◌then◌else◌, IfOk};
+ghost use Rattle.std.specs.Prelude.{◌≡◌, ◌*◌, ◌≤◌, ◌<◌, ℕ, length, map, is_some, None, slice_index, slice_index_or, if◌then◌else◌, IfOk};
 ghost use Rattle.terrain.specs.StoredCells.{uncounted};
 ghost use Rattle.tiles.specs.Cutting.{IsInBounds, index_in};
 ghost use Rattle.flow.specs.TileLinks.{AreInteriorMoves, AreMovesOf, IsInteriorMove, IsMove, EndsInLargestGrid, code_numbered, code_told, links_by, weights_by, where_data};
@@ -26,7 +26,7 @@ const NO_DATA: u8 = 9;
 const INTERIOR_MOVES: [u8; 10] = [66, 134, 137, 140, 80, 20, 25, 30, 97, 101];
 
 /// The move of a cell that is linked to itself, less what tells its code.
-const STAY: u8 = 65;
+const STAY: u32 = 65;
 
 /// The codes and links of a tile's cells, in the tile's row order.
 #[derive(Drop)]
@@ -79,7 +79,7 @@ impl TileLinks {
         ensures codes { IfOk result (λ l. l.codes ≡ cells.now) }
         ensures links { IfOk result (λ l. l.links ≡ links_by bounds cells.now) }
     {
-        let mut moves = vec![in alloc; STAY; cells.len()]?;
+        let mut moves = vec![in alloc; 0; cells.len()]?;
         set_moves(&mut moves, bounds, cells);
         Ok(TileLinks {
             cols: bounds.cols,
@@ -105,15 +105,14 @@ impl TileLinks {
         has_data(self.moves[index])
     }
 
-    /// Returns `number` as the count of the cell with this index, or the `Count` of NODATA.
+    /// Returns the moves of the tile's cells, as a slice that loops keep at hand.
     #[inline(always)]
-    pub(crate) fn count_where_data(&self, index: usize, number: u32) -> Count
-        requires { index < length self.now.codes }
-        ensures { number < uncounted →
-            result ≡ where_data (slice_index_or self.now.codes index None) number }
+    pub(crate) fn moves(&self) -> &[u8]
+        ensures size { length result.now ≡ length self.now.codes }
+        ensures tell { (i : ℕ) → i < length self.now.codes →
+            slice_index_or self.now.codes i None ≡ code_told (slice_index result.now i) }
     {
-        // Without a branch, loops over cells take eight at once.
-        Count::of(none_without_data(self.moves[index]).max(number))
+        &self.moves
     }
 
     /// Returns each cell's weight: 1 for a data cell, 0 for NODATA.
@@ -148,6 +147,15 @@ fn has_data(cell: u8) -> bool
     ensures { result ≡ is_some (code_told cell) }
 {
     cell / 4 % 16 != NO_DATA
+}
+
+/// Returns `number` as the count of a cell with this move, or the `Count` of NODATA.
+#[inline(always)]
+pub(crate) fn count_where_data(cell: u8, number: u32) -> Count
+    ensures { number < uncounted → result ≡ where_data (code_told cell) number }
+{
+    // Without a branch, loops over cells take eight at once.
+    Count::of(none_without_data(cell).max(number))
 }
 
 /// Returns 0 for a move of a cell with data, the number stored for NODATA otherwise.
@@ -218,13 +226,13 @@ fn rim_move(bounds: Bounds, place: Place, code: &Option<Code>) -> u8
     ensures { IsMove bounds (index_in bounds place) code.now result }
 {
     let next = next_of(*code, place);
-    let number = number_of(*code);
+    let number = u32::from(number_of(*code));
     if bounds.contains(next) {
         let down = next.row + 1 - place.row;
         let right = next.col + 1 - place.col;
-        (64 * down + right) as u8 + 4 * number
+        (64 * down + right + 4 * number) as u8
     } else {
-        STAY + 4 * number
+        (STAY + 4 * number) as u8
     }
 }
 

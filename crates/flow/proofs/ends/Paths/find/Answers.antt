@@ -14,12 +14,12 @@ returns-then-known-clause-found g c = known_more c.args.node _ c.requires.found 
 
 pub write-requires-clause-number : goal.write-requires-clause-number
 write-requires-clause-number g c =
-    let links = g.L.Links.list c.args.self.now.links.now in
-    c.number_from-number.ensures ∙ ap (λ i. (g.N.EndNumbering.numbers c.args.self.now.numbers.now).number i)
-    (ap (end_of links) c.next-next.ensures ∙ end-onward c.args.self.now.sound.streams c.args.node c.requires.inside)
+    c.number_from-number.ensures ∙ ap (g.N.EndNumbering.numbers c.args.self.now.numbers.now).number
+    (ap (end_of (g.L.Links.list c.args.self.now.links.now)) c.next-next.ensures
+    ∙ end-onward c.args.self.now.sound.streams c.args.node c.requires.inside)
 
 pub returns-clause-value : goal.returns-clause-value
 returns-clause-value g c =
-    let links = g.L.Links.list c.args.self.now.links.now in
-    c.number_from-number.ensures ∙ ap (λ i. (g.N.EndNumbering.numbers c.args.self.now.numbers.now).number i)
-    (ap (end_of links) c.next-next.ensures ∙ end-onward c.args.self.now.sound.streams c.args.node c.requires.inside)
+    c.number_from-number.ensures ∙ ap (g.N.EndNumbering.numbers c.args.self.now.numbers.now).number
+    (ap (end_of (g.L.Links.list c.args.self.now.links.now)) c.next-next.ensures
+    ∙ end-onward c.args.self.now.sound.streams c.args.node c.requires.inside)
