@@ -1,17 +1,18 @@
 -- A cell's move leads to the cell to which the cell is linked. So the moves of all cells lead along
 -- the tile's links.
 use borrow.Author.Count.{below_more}
-use Rattle.std.proofs.Common.{◌≡◌, ℕ, ◌+◌, ◌-◌, ◌*◌, ◌/◌, ◌%◌, ◌^◌, ◌<◌, ◌≤◌, ◌⊎◌, inl, inr, List, [], ◌∷◌, length, get_or, set, Option, None, Some, unwrap_or, false, cond, sym, ap, subst, refl, ◌∙◌, arith}
+use Rattle.std.proofs.Common.{◌≡◌, ℕ, ◌+◌, ◌-◌, ◌*◌, ◌/◌, ◌%◌, ◌^◌, ◌<◌, ◌≤◌, ◌⊎◌, inl, inr, List, [], ◌∷◌, length, get_or, map, set, Option, None, Some, unwrap_or, false, cond, sym, ap, subst, refl, ◌∙◌, arith}
 use Rattle.std.specs.Option.{option_and_then}
+use Rattle.std.proofs.Math.ListN.{length-map}
 use Rattle.std.proofs.Math.Nat.{mul-le-mul}
 use Rattle.std.proofs.lemmas.Bool.{cases_Bool, cases_eq, cases_lt, cond-true, cond-false}
 use Rattle.std.proofs.lemmas.Grind.{same_number_lists}
-use Rattle.std.proofs.lemmas.List.{get_or_default, get_or_past, get_or-set_same, get_or-set_other, length-set}
+use Rattle.std.proofs.lemmas.List.{get_or_default, get_or_past, get_or-map, get_or-set_same, get_or-set_other, length-set, same_lists}
 use Rattle.std.proofs.lemmas.List.FromFn.{get_or-map-range_with_len, length-map-range_with_len}
 use Rattle.std.proofs.lemmas.Nat.{div-mul-add, mod-mul-add, mul-add-lt}
 use Rattle.std.proofs.lemmas.Option.{none-some}
 use Rattle.terrain.specs.Neighbours.{Touches}
-use Rattle.terrain.specs.Ways.{way_of, ways_from, place_on, place_toward, around_index}
+use Rattle.terrain.specs.Ways.{way_of, code_of, ways_from, place_on, place_toward, around_index}
 use Rattle.terrain.specs.declared.place.Place.{Place}
 use Rattle.terrain.proofs.Options.{cases_option}
 use Rattle.terrain.proofs.Places.{make_place}
@@ -22,7 +23,7 @@ use Rattle.tiles.proofs.Cut.{in_bounds_from, in_bounds_parts}
 use Rattle.tiles.specs.RimNumbers.{stride, side_number, side_place}
 use Rattle.tiles.proofs.RimNumbered.{IsSide, side_below, side_back}
 use Rattle.tiles.proofs.TileOrder.{place_in_bounds, index_in_below, index_in-place_in}
-use Rattle.flow.specs.TileLinks.{IsInteriorAt, EndsInLargestGrid, link_by, links_by, reach, moved_by, AreMoves, IsMove, AreMovesOf, AreInteriorMoves}
+use Rattle.flow.specs.TileLinks.{IsInteriorAt, EndsInLargestGrid, link_by, links_by, reach, code_numbered, code_told, moved_by, AreMoves, IsLeading, IsMove, AreMovesOf, IsInteriorMove, AreInteriorMoves}
 use Rattle.flow.proofs.Listed.{place_in_row}
 
 toward_touches : (p q : Place) (code : ℕ) → place_toward code p ≡ Some q → Touches p q
@@ -61,6 +62,25 @@ few_cells b rows cols =
     let most : b.rows * b.cols ≤ 4096 * 4096 = mul-le-mul r k in
     omega arith
 
+-- What a move of these parts reaches and tells.
+reach_parts : (cols i down right n : ℕ) → right < 4 → n < 16 →
+    reach cols i (64 * down + right + 4 * n) ≡ i + down * cols + right
+reach_parts cols i down right n few below =
+    let rows : (64 * down + right + 4 * n) / 64 ≡ down = omega (arith, few, below) in
+    let across : (64 * down + right + 4 * n) % 4 ≡ right = omega (arith, few, below) in
+    omega (arith, ap (λ k. k * cols) rows, across)
+
+told_parts : (down right n : ℕ) → right < 4 → n < 16 →
+    code_told (64 * down + right + 4 * n) ≡ code_numbered n
+told_parts down right n few below = ap code_numbered (omega (arith, few, below))
+
+pub stays : {b : Bounds} {i : ℕ} {code : Option ℕ} (n : ℕ) → n < 16 → code_numbered n ≡ code →
+    link_by b i code ≡ i → IsMove b i code (65 + 4 * n)
+stays {b} {i} n below told stay = record {
+  leads = omega (arith, reach_parts b.cols i 1 1 n (omega arith) below, stay);
+  tells = told_parts 1 1 n (omega arith) below ∙ told;
+}
+
 module _ (b : Bounds) (i : ℕ) {p : Place} (at : p ≡ place_in b i) (code : Option ℕ) {q : Place}
     (is : q ≡ led p code) where
   linked : link_by b i code ≡ cond (is_in_bounds b q) (index_in b q) i
@@ -70,10 +90,10 @@ module _ (b : Bounds) (i : ℕ) {p : Place} (at : p ≡ place_in b i) (code : Op
   link_inside : IsInBounds b q → link_by b i code ≡ index_in b q
   link_inside inside = linked ∙ cond-true _ _ _ (in_bounds_from b q inside)
 
-  pub stay_outside : is_in_bounds b q ≡ false → IsMove b i code 5
-  stay_outside out = omega (arith, linked ∙ cond-false _ (index_in b q) i out)
+  pub stay_outside : is_in_bounds b q ≡ false → link_by b i code ≡ i
+  stay_outside out = linked ∙ cond-false _ (index_in b q) i out
 
-  pub stay_at : q ≡ p → IsMove b i code 5
+  pub stay_at : q ≡ p → link_by b i code ≡ i
   stay_at same = elim (cases_Bool (is_in_bounds b q)) [
     | inl y ↦ omega (
       arith,
@@ -92,39 +112,49 @@ module _ (b : Bounds) (i : ℕ) {p : Place} (at : p ≡ place_in b i) (code : Op
   right_few = let t = rw (← is) at (next_touches p code) in
       (omega (arith, t.col_right), t.col_left)
 
-  pub moves_there : IsInBounds b p → IsInBounds b q →
-      IsMove b i code (4 * (q.row + 1 - p.row) + (q.col + 1 - p.col))
-  moves_there here inside =
-      let parts : 4 * (q.row + 1 - p.row) + (q.col + 1 - p.col)
-      ≡ (q.row + 1 - p.row) * 4 + (q.col + 1 - p.col) = omega arith in
-      let down : (4 * (q.row + 1 - p.row) + (q.col + 1 - p.col)) / 4 ≡ q.row + 1 - p.row =
-      ap (λ (n : ℕ). n / 4) parts
-      ∙ div-mul-add (q.row + 1 - p.row) 4 (q.col + 1 - p.col) (omega (arith, right_few)) in
+  pub moves_there : (n : ℕ) → n < 16 → code_numbered n ≡ code → IsInBounds b p → IsInBounds b q →
+      IsMove b i code (64 * (q.row + 1 - p.row) + (q.col + 1 - p.col) + 4 * n)
+  moves_there n few told here inside =
       let rows : q.row - b.top + 1 ≡ p.row - b.top + (q.row + 1 - p.row) = omega (arith, down_few) in
-      omega (
-        arith,
-        ap (λ n. n * b.cols) down,
-        ap (λ (n : ℕ). n % 4) parts ∙ mod-mul-add (q.row + 1 - p.row) 4 (q.col + 1 - p.col)
-            (omega (arith, right_few)),
-        right_few,
-        strides (p.row - b.top) (q.row - b.top) (q.row + 1 - p.row) b.cols rows,
-        sym (index_in-place_in b i) ∙ ap (index_in b) (sym at),
-        link_inside inside,
-      )
+      record {
+        leads = omega (
+          arith,
+          reach_parts b.cols i (q.row + 1 - p.row) (q.col + 1 - p.col) n (omega (arith, right_few)) few,
+          right_few,
+          strides (p.row - b.top) (q.row - b.top) (q.row + 1 - p.row) b.cols rows,
+          sym (index_in-place_in b i) ∙ ap (index_in b) (sym at),
+          link_inside inside,
+        );
+        tells = told_parts (q.row + 1 - p.row) (q.col + 1 - p.col) n (omega (arith, right_few)) few ∙ told;
+      }
     where
       strides : (x y d c : ℕ) → y + 1 ≡ x + d → y * c + c ≡ x * c + d * c
       strides x y d c e = omega (arith, ap (λ n. n * c) e)
 
--- The moves of the eight directions.
-abbrev pub way_moves : List ℕ
-way_moves = 6 ∷ 10 ∷ 9 ∷ 8 ∷ 4 ∷ 0 ∷ 1 ∷ 2 ∷ []
+-- The moves of interior cells, by the numbers of their codes.
+abbrev pub interior_moves : List ℕ
+interior_moves = 66 ∷ 134 ∷ 137 ∷ 140 ∷ 80 ∷ 20 ∷ 25 ∷ 30 ∷ 97 ∷ 101 ∷ []
 
 way_reach : (cols i way : ℕ) → way < 8 → cols + 1 ≤ i →
-    reach cols i (get_or way_moves way 0) ≡ get_or (around_index cols i) way 0 + (cols + 1)
-way_reach cols i way below high = eight (λ way. reach cols i (get_or way_moves way 0)
+    reach cols i (get_or interior_moves way 0) ≡ get_or (around_index cols i) way 0 + (cols + 1)
+way_reach cols i way below high = eight (λ way. reach cols i (get_or interior_moves way 0)
     ≡ get_or (around_index cols i) way 0 + (cols + 1))
     (omega arith) (omega arith) (omega arith) (omega arith) (omega arith) (omega arith) (omega arith) (omega arith)
     way below
+
+-- The code of a number below 8 has this number as direction.
+way_told : (n : ℕ) → n < 8 → (way_of (code_of (Some n)) ≡ Some n) × (code_numbered n ≡ Some (code_of (Some n)))
+way_told = eight (λ n. (way_of (code_of (Some n)) ≡ Some n) × (code_numbered n ≡ Some (code_of (Some n))))
+    (refl, refl) (refl, refl) (refl, refl) (refl, refl) (refl, refl) (refl, refl) (refl, refl) (refl, refl)
+
+ten : (P : ℕ → Type 0) → ((n : ℕ) → n < 8 → P n) → P 8 → P 9 → (n : ℕ) → n < 10 → P n
+ten P ways eighth ninth n below = elim (cases_lt n 8) [
+  | inl way ↦ ways n way
+  | inr high ↦ elim (cases_eq n 8) [
+    | inl is ↦ rw is eighth
+    | inr other ↦ subst P (omega (arith, high, below, other)) ninth
+  ]
+]
 
 module _ {b : Bounds} {r k : ℕ} (interior : IsInteriorAt b r k) where
   abbrev here : Place
@@ -142,13 +172,13 @@ module _ {b : Bounds} {r k : ℕ} (interior : IsInteriorAt b r k) where
       let more : 1 * b.cols ≤ r * b.cols = mul-le-mul (omega (arith, interior.first_row)) (omega arith) in
       omega (arith, interior.first_col)
 
-  pub stays_interior : (code : Option ℕ) → option_and_then (λ c. place_toward c here) code ≡ None →
-      IsMove b (r * b.cols + k) code 5
+  stays_interior : (code : Option ℕ) → option_and_then (λ c. place_toward c here) code ≡ None →
+      link_by b (r * b.cols + k) code ≡ r * b.cols + k
   stays_interior code none = stay_at b (r * b.cols + k) here_is code refl
       (ap (λ o. unwrap_or o here) none)
 
-  pub goes_on_way : (n way : ℕ) → way_of n ≡ Some way → way < 8 →
-      IsMove b (r * b.cols + k) (Some n) (get_or way_moves way 0)
+  goes_on_way : (n way : ℕ) → way_of n ≡ Some way → way < 8 →
+      IsLeading b (r * b.cols + k) (Some n) (get_or interior_moves way 0)
   goes_on_way n way is below =
       let q = on_ways b.top b.left b.cols (r * b.cols + k) here (b.top + r - 1) (b.left + k - 1)
       (omega (arith, interior.first_row)) (omega (arith, interior.first_col))
@@ -163,6 +193,25 @@ module _ {b : Bounds} {r k : ℕ} (interior : IsInteriorAt b r k) where
         omega (arith, interior.first_col, q.1.touches.col_left),
         omega (arith, interior.last_col, q.1.touches.col_right),
       )))
+
+  goes : (n : ℕ) → n < 10 → IsLeading b (r * b.cols + k) (code_numbered n) (get_or interior_moves n 0)
+  goes = ten (λ n. IsLeading b (r * b.cols + k) (code_numbered n) (get_or interior_moves n 0))
+      (λ n below. subst (λ (code : Option ℕ). IsLeading b (r * b.cols + k) code (get_or interior_moves n 0))
+      (sym (way_told n below).1) (goes_on_way (code_of (Some n)) n (way_told n below).0 below))
+      (omega (arith, stays_interior (Some 0) refl)) (omega (arith, stays_interior None refl))
+
+interior_told : (n : ℕ) → n < 10 → code_told (get_or interior_moves n 0) ≡ code_numbered n
+interior_told = ten (λ n. code_told (get_or interior_moves n 0) ≡ code_numbered n)
+    (eight (λ n. code_told (get_or interior_moves n 0) ≡ code_numbered n) refl refl refl refl refl refl refl refl)
+    refl refl
+
+pub moves_inside : {code : Option ℕ} (n : ℕ) → n < 10 → code_numbered n ≡ code →
+    IsInteriorMove code (get_or interior_moves n 0)
+moves_inside {code} n below told b row col interior = record {
+  leads = subst (λ (code : Option ℕ). IsLeading b (row * b.cols + col) code (get_or interior_moves n 0)) told
+      (goes interior n below);
+  tells = interior_told n below ∙ told;
+}
 
 link_below : (b : Bounds) (i : ℕ) (code : Option ℕ) → i < b.rows * b.cols →
     link_by b i code < b.rows * b.cols
@@ -281,10 +330,10 @@ module _ {b : Bounds} {cells : List (Option ℕ)} {moves : List ℕ} (small : En
     (s : AreMovesOf b cells moves) where
   pub moves_fit : AreMoves b.cols moves
   moves_fit = record {
-    low = λ i h. omega (arith, s.each i (omega (arith, h, s.size)));
+    low = λ i h. omega (arith, (s.each i (omega (arith, h, s.size))).leads);
     high = λ i h. omega (
       arith,
-      s.each i (omega (arith, h, s.size)),
+      (s.each i (omega (arith, h, s.size))).leads,
       link_below b i (get_or cells i None) (omega (arith, h, s.size)),
       few_cells b small.few_rows small.few_cols,
       small.few_cols,
@@ -302,8 +351,14 @@ module _ {b : Bounds} {cells : List (Option ℕ)} {moves : List ℕ} (small : En
         arith,
         get_or-map-range_with_len there 0 (length moves) i i 0 (omega (arith, h, made)) (omega arith),
         get_or-map-range_with_len link 0 (b.rows * b.cols) i i 0 below (omega arith),
-        s.each i below,
+        (s.each i below).leads,
       )))
+
+  pub told_codes : length cells ≡ b.rows * b.cols → map code_told moves ≡ cells
+  told_codes size = same_lists _ _ (length-map moves code_told ∙ s.size ∙ sym size)
+      (λ i none h. (let below : i < length moves = omega (arith, h, length-map moves code_told) in
+      get_or-map code_told moves i 0 none below ∙ (s.each i (omega (arith, below, s.size))).tells
+      ∙ get_or_default cells i None none (omega (arith, below, s.size, size))))
 
 pub moves_below : (cols : ℕ) (moves : List ℕ) {links : List ℕ} (i : ℕ) → moved_by cols moves ≡ links → i < length
     links →

@@ -2,10 +2,11 @@
 -- below n, or of all, exactly if `list_any` or `list_all` says so. The list of f 0 to f n is that
 -- of f's values at the numbers below n, with f n appended.
 use borrow.Author.Count.{below_more}
-use Rattle.std.proofs.Common.{◌≡◌, ℕ, zero, suc, ◌+◌, ◌*◌, ◌≤◌, List, length, map, sym, ap, refl, ◌∙◌, arith, add-one, zero-mul, ◌<◌, Bool, true, [], ◌∷◌, ◌++◌, get_or}
-use Rattle.std.proofs.lemmas.List.{length-append, get_or_append_left, get_or_push}
+use Rattle.std.proofs.Common.{◌≡◌, ℕ, zero, suc, ◌+◌, ◌*◌, ◌≤◌, List, length, map, sym, ap, refl, ◌∙◌, arith, add-one, zero-mul, ◌<◌, Bool, true, [], ◌∷◌, ◌++◌, get_or, set, inl, inr}
+use Rattle.std.proofs.lemmas.Bool.{cases_eq}
+use Rattle.std.proofs.lemmas.List.{length-append, get_or_append_left, get_or_push, get_or-set_same, get_or-set_other, length-set, same_lists}
 use Rattle.std.proofs.lemmas.List.Sums.{sum_by-append, AllPass-from_list_all, list_all-from_AllPass}
-use Rattle.std.proofs.lemmas.List.FromFn.{sum_by-map-range_with_len_more, length-range_with_len, get_or-range_with_len, map-range_with_len_more}
+use Rattle.std.proofs.lemmas.List.FromFn.{sum_by-map-range_with_len_more, length-range_with_len, get_or-range_with_len, map-range_with_len_more, get_or-map-range_with_len, length-map-range_with_len}
 use Rattle.std.proofs.lemmas.Nat.{div-mul-add, mod-mul-add}
 use Rattle.std.specs.List.{range_with_len, flat_map, sum_by, list_any, list_all}
 use Rattle.terrain.specs.Ways.{places}
@@ -102,6 +103,27 @@ pub mapped_pushed : {X : Type 0} (f : ℕ → X) (n : ℕ) {xs ys : List X} {x :
     (range_with_len 0 n) → x ≡ f n → ys ≡ xs ++ x ∷ [] → ys ≡ map f (range_with_len 0 (n + 1))
 mapped_pushed f n {x = x} made here pushed = pushed ∙ ap (λ l. l ++ x ∷ []) made
     ∙ ap (λ y. map f (range_with_len 0 n) ++ y ∷ []) here ∙ sym (mapped_next f n)
+
+-- Each of the first k entries of xs is the value of f at its index.
+pub record AreSet {X : Type 0} (f : ℕ → X) (n k : ℕ) (xs : List X) : Type 0 where
+  pub size : length xs ≡ n
+  pub each : (i : ℕ) (d : X) → i < k → get_or xs i d ≡ f i
+
+pub set_next : {X : Type 0} (f : ℕ → X) {n k : ℕ} {xs : List X} {x : X} → k < n → AreSet f n k xs →
+    x ≡ f k → AreSet f n (k + 1) (set xs k x)
+set_next f {k = k} {xs = xs} {x = x} below so_far here = record {
+  size = length-set xs k x ∙ so_far.size;
+  each = λ i d early. elim (cases_eq i k) [
+    | inl same ↦ rw same (get_or-set_same xs k x d (omega (arith, below, so_far.size)) ∙ here)
+    | inr other ↦ get_or-set_other xs k i x d other ∙ so_far.each i d (omega (arith, early, other))
+  ];
+}
+
+pub set_all : {X : Type 0} (f : ℕ → X) {n k : ℕ} {xs : List X} → n ≤ k → AreSet f n k xs →
+    xs ≡ map f (range_with_len 0 n)
+set_all f {n} {xs = xs} all s = same_lists _ _ (s.size ∙ sym (length-map-range_with_len f 0 n))
+    (λ i d h. s.each i d (omega (arith, h, all, s.size))
+    ∙ sym (get_or-map-range_with_len f 0 n i i d (omega (arith, h, s.size)) (omega arith)))
 
 pub mapped_all : {X : Type 0} (f : ℕ → X) {n m : ℕ} {xs : List X} →
     xs ≡ map f (range_with_len 0 n) → n ≡ m → xs ≡ map f (range_with_len 0 m)

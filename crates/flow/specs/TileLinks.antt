@@ -1,8 +1,8 @@
 -- The directions of a tile as links between its cells, by their indexes in the tile's row order.
 -- Public.
-use Rattle.std.specs.Prelude.{◌≡◌, ℕ, ◌+◌, ◌-◌, ◌*◌, ◌/◌, ◌%◌, ◌^◌, ◌<◌, ◌≤◌, if◌then◌else◌, is_some, List, [], map, length, Option, None, Some, slice_index, slice_index_or, unwrap_or, option_and_then}
+use Rattle.std.specs.Prelude.{◌≡◌, ℕ, ◌+◌, ◌-◌, ◌*◌, ◌/◌, ◌%◌, ◌^◌, ◌<◌, ◌≤◌, ◌==◌, if◌then◌else◌, is_some, List, [], map, length, Option, None, Some, slice_index, slice_index_or, unwrap_or, option_and_then}
 use Rattle.std.specs.List.{range_with_len}
-use Rattle.terrain.specs.Ways.{place_toward}
+use Rattle.terrain.specs.Ways.{place_toward, code_of}
 use Rattle.tiles.specs.Cutting.{longest_axis, is_in_bounds, index_in, place_in}
 use Rattle.terrain.specs.declared.place.Place.{Place}
 use Rattle.tiles.specs.declared.bounds.Bounds.{Bounds}
@@ -41,10 +41,24 @@ abbrev pub links_by : Bounds → List (Option ℕ) → List ℕ
 links_by b cells =
     map (λ i. link_by b i (slice_index_or cells i None)) (range_with_len 0 (b.rows * b.cols))
 
--- A move is 4 times the rows down to a cell plus the columns right, each plus 1. From the cell with
--- index i, in rows of `cols` cells, it leads to index `reach cols i move - (cols + 1)`.
+-- A move is 64 times the rows down to a cell plus the columns right, each plus 1, plus 4 times the
+-- number of the cell's code. From the cell with index i, in rows of `cols` cells, it leads to index
+-- `reach cols i move - (cols + 1)`.
 abbrev pub reach : ℕ → ℕ → ℕ → ℕ
-reach cols i move = i + move / 4 * cols + move % 4
+reach cols i move = i + move / 64 * cols + move % 4
+
+-- The code with this number: a direction has its own, an outlet 8, NODATA 9.
+abbrev pub code_numbered : ℕ → Option ℕ
+code_numbered n = if n == 9 then None else Some (code_of (Some n))
+
+-- The code that a move tells.
+abbrev pub code_told : ℕ → Option ℕ
+code_told move = code_numbered (move / 4 % 16)
+
+-- The code of each cell of a tile, and the index of the cell to which it is linked.
+pub record LinkedCells : Type 0 where
+  pub codes : List (Option ℕ)
+  pub links : List ℕ
 
 abbrev pub moved_by : ℕ → List ℕ → List ℕ
 moved_by cols moves = map (λ i. reach cols i (slice_index moves i) - (cols + 1))
@@ -56,8 +70,13 @@ pub record AreMoves (cols : ℕ) (moves : List ℕ) : Type 0 where
   pub high : (i : ℕ) → i < length moves → reach cols i (slice_index moves i) < 2 ^ 32
 
 -- The move of cell i leads to the cell to which cell i with this code is linked.
-abbrev pub IsMove : Bounds → ℕ → Option ℕ → ℕ → Type 0
-IsMove b i code move = reach b.cols i move ≡ link_by b i code + (b.cols + 1)
+abbrev pub IsLeading : Bounds → ℕ → Option ℕ → ℕ → Type 0
+IsLeading b i code move = reach b.cols i move ≡ link_by b i code + (b.cols + 1)
+
+-- The move of cell i also tells the cell's code.
+pub record IsMove (b : Bounds) (i : ℕ) (code : Option ℕ) (move : ℕ) : Type 0 where
+  pub leads : IsLeading b i code move
+  pub tells : code_told move ≡ code
 
 -- The move of each cell in the bounds.
 pub record AreMovesOf (b : Bounds) (cells : List (Option ℕ)) (moves : List ℕ) : Type 0 where

@@ -1,12 +1,10 @@
-//! Lists a tile's codes and weights, in the tile's row order; finds the place that a code leads to.
-//!
-//! A data cell has weight 1, NODATA 0.
+//! Lists a tile's codes, in the tile's row order; finds the place that a code leads to.
 ghost use Rattle.std.specs.Prelude.{◌≡◌, ◌-◌, ◌^◌, ◌<◌, IfOk, unwrap_or, option_and_then};
 ghost use Rattle.terrain.specs.Ways.{place_toward};
 ghost use Rattle.tiles.specs.Cutting.{bounds_of};
 ghost use Rattle.terrain.specs.Neighbours.{is_place};
 ghost use Rattle.flow.specs.TileFlow.{directed_by};
-ghost use Rattle.flow.specs.TileLinks.{AreTileCodes, weights_by};
+ghost use Rattle.flow.specs.TileLinks.{AreTileCodes};
 
 use drainage::Code;
 use std::alloc::{AllocError, Global};
@@ -28,16 +26,6 @@ pub(crate) fn tile_codes(
         cells.extend_from_slice(codes.row(row))?;
     }
     Ok(cells)
-}
-
-/// Returns each cell's weight: 1 for a data cell, 0 for NODATA.
-pub(crate) fn tile_weights(alloc: Global, cells: &[Option<Code>]) -> Result<Vec<u32>, AllocError>
-    ensures { IfOk result (λ v. v.items ≡ weights_by cells.now) }
-{
-    cells
-        .iter()
-        .map(|code| u32::from(code.is_some()))
-        .collect(alloc)
 }
 
 /// Returns whether two places are equal, by the definition `is_place`.

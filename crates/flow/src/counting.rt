@@ -10,8 +10,7 @@ ghost use Rattle.tile_jobs.specs.Fault.{RefusesWorkers};
 ghost use Rattle.drainage.specs.Drained.{directed_of};
 ghost use Rattle.flow.specs.Counts.{AreAccumulations};
 ghost use Rattle.flow.specs.Counting.{IsCountable, AreCountable, AreInflowWeights, AreCounts};
-ghost use Rattle.flow.specs.TileLinks.{counts_by, where_data};
-ghost use Rattle.terrain.specs.StoredCells.{uncounted};
+ghost use Rattle.flow.specs.TileLinks.{counts_by};
 ghost use Rattle.flow.specs.Inflows.{listed_inflow};
 ghost use Rattle.terrain.specs.declared.place.Place.{Place as AtPlace};
 
@@ -20,7 +19,8 @@ use crate::inflows::Inflows;
 use crate::rim_graph::RimGraph;
 use crate::streams::{totals_of_few, zeros};
 use crate::tile::TileFlow;
-use drainage::{Code, Directions};
+use crate::tile_links::{TileLinks, count_where_data};
+use drainage::Directions;
 use std::alloc::{AllocError, Global};
 use std::sync::Wait;
 use std::thread::Threads;
@@ -114,10 +114,11 @@ fn tile_counts(
     requires tile { tile < tile_count inflows.now.cutting }
     ensures { IfOk result (λ v. AreCounts inflows.now tile flow.now v.items) }
 {
-    let codes = flow.codes();
-    let weights = inflow_weights(alloc, inflows, tile, codes.len())?;
-    let added = totals_of_few(alloc, flow.links(), weights)?;
-    counts(alloc, codes, flow.totals(), &added)
+    let links = flow.links();
+    let totals = flow.totals();
+    let weights = inflow_weights(alloc, inflows, tile, totals.len())?;
+    let added = totals_of_few(alloc, links, weights)?;
+    counts(alloc, links, totals, &added)
 }
 
 /// Returns the inflow of each cell of a tile.
@@ -141,36 +142,37 @@ fn inflow_weights(
 
 /// Returns each data cell's entry in `totals` plus that in `added`, less 1 for the cell itself.
 /// NODATA has no count.
-#[tactic(auto, using(crate::proofs::Ranges::mapped_next))]
 fn counts(
     alloc: Global,
-    cells: &[Option<Code>],
+    links: &TileLinks,
     totals: &[u32],
     added: &[u32],
 ) -> Result<Vec<Count>, AllocError>
-    requires totals { length totals.now ≡ length cells.now }
-    requires added { length added.now ≡ length cells.now }
-    requires fits { (i : ℕ) → i < length cells.now →
+    requires totals { length totals.now ≡ length links.now.codes }
+    requires added { length added.now ≡ length links.now.codes }
+    requires fits { (i : ℕ) → i < length links.now.codes →
         slice_index totals.now i + slice_index added.now i < 2 ^ 32 }
-    ensures { IfOk result (λ v. v.items ≡ counts_by cells.now
+    ensures { IfOk result (λ v. v.items ≡ counts_by links.now.codes
         (λ i. slice_index totals.now i + slice_index added.now i)) }
 {
-    let mut values = Vec::with_capacity(alloc, cells.len())?;
-    for index in 0..cells.len() {
-        let total = totals[index] + added[index];
-        // The total of NODATA is 0, hence `saturating_sub`.
-        values.push(count_where_data(cells[index], total.saturating_sub(1)))?;
-    }
+    let mut values = vec![in alloc; Count::none(); totals.len()]?;
+    set_counts(&mut values, links, totals, added);
     Ok(values)
 }
 
-/// Returns `number` as the count of a data cell, or the `Count` of NODATA.
-#[inline(always)]
-pub(crate) fn count_where_data(code: Option<Code>, number: u32) -> Count
-    ensures { number < uncounted → result ≡ where_data code number }
+fn set_counts(values: &mut [Count], links: &TileLinks, totals: &[u32], added: &[u32])
+    requires values { length values.old ≡ length links.now.codes }
+    requires totals { length totals.now ≡ length links.now.codes }
+    requires added { length added.now ≡ length links.now.codes }
+    requires fits { (i : ℕ) → i < length links.now.codes →
+        slice_index totals.now i + slice_index added.now i < 2 ^ 32 }
+    ensures { values.new ≡ counts_by links.now.codes
+        (λ i. slice_index totals.now i + slice_index added.now i) }
 {
-    match code {
-        Some(_) => Count::of(number),
-        None => Count::none(),
+    let moves = links.moves();
+    for index in 0..values.len() {
+        let total = totals[index] + added[index];
+        // The total of NODATA is 0, hence `saturating_sub`.
+        values[index] = count_where_data(moves[index], total.saturating_sub(1));
     }
 }

@@ -118,12 +118,13 @@ impl<'a, L: Links, N: EndNumbering> Paths<'a, L, N> {
         ensures known { IsKnown found.new node }
     {
         // Half of all cells lead to one whose number is known, so no path is walked.
-        let known = found[self.links.next(node)];
+        let next = self.links.next(node);
+        let known = found[next];
         if known != UNKNOWN {
             found[node] = known;
             return known;
         }
-        let number = self.number_from(found, node);
+        let number = self.number_from(found, next);
         self.write(found, node, number);
         number
     }

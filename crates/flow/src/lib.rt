@@ -15,8 +15,8 @@
 //! - `tile`: the flow of one tile
 //! - `tile_exits`: the exits of one tile, without counts
 //! - `exit_lists`: the trait for lists of all tiles' exits
-//! - `cells`: codes and weights of a tile
-//! - `tile_links`: links of a tile's cells, one byte each
+//! - `cells`: codes of a tile
+//! - `tile_links`: codes and links of a tile's cells, one byte each
 //! - `nodes`: the trait for links of nodes
 //! - `streams`: weights summed along links
 //! - `ends`: where paths along links end, and the numbers found there

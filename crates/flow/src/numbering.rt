@@ -11,12 +11,11 @@ ghost use Rattle.drainage.specs.Following.{Directed};
 ghost use Rattle.flow.specs.RimGraph.{AreFlowsOf, listed_outlet};
 ghost use Rattle.flow.specs.Numbering.{AreNumberedCells, AreReady, cell_numbers_by, end_number, number_at};
 
-use crate::counting::count_where_data;
 use crate::end_numbers::EndNumbering;
 use crate::outlets::Outlets;
 use crate::rim_graph::RimGraph;
 use crate::tile_exits::TileExits;
-use drainage::Code;
+use crate::tile_links::{TileLinks, count_where_data};
 use std::alloc::{AllocError, Global};
 use std::sync::Wait;
 use std::thread::Threads;
@@ -59,7 +58,7 @@ impl<'a, N: EndNumbering> TileMap for Numbering<'a, N> {
                 flow,
             },
         )?;
-        let values = cell_numbers(alloc, flow.codes(), &numbers)?;
+        let values = cell_numbers(alloc, flow.links(), &numbers)?;
         Ok(values)
     }
 }
@@ -97,7 +96,7 @@ impl<'a, 'b, N: EndNumbering> EndNumbering for TileNumbers<'a, 'b, N> {
 
     #[inline(always)]
     fn number(&self, index: usize) -> u32 {
-        if self.flow.codes()[index].is_none() {
+        if !self.flow.links().has_data(index) {
             return 0;
         }
         self.numbering
@@ -135,19 +134,24 @@ pub(crate) fn number_cells<R: Threads + Wait + Sync, G: Gate + Sync, N: EndNumbe
 }
 
 /// Returns the number of each data cell. NODATA has [`Count::none`].
-#[tactic(auto, using(crate::proofs::Ranges::mapped_next))]
-fn cell_numbers(
-    alloc: Global,
-    codes: &[Option<Code>],
-    numbers: &[u32],
-) -> Result<Vec<Count>, AllocError>
-    requires size { length numbers.now ≡ length codes.now }
-    requires few { (i : ℕ) → i < length codes.now → slice_index numbers.now i < uncounted }
-    ensures { IfOk result (λ v. v.items ≡ cell_numbers_by codes.now numbers.now) }
+fn cell_numbers(alloc: Global, links: &TileLinks, numbers: &[u32]) -> Result<Vec<Count>, AllocError>
+    requires size { length numbers.now ≡ length links.now.codes }
+    requires few { (i : ℕ) → i < length links.now.codes → slice_index numbers.now i < uncounted }
+    ensures { IfOk result (λ v. v.items ≡ cell_numbers_by links.now.codes numbers.now) }
 {
-    let mut values = Vec::with_capacity(alloc, codes.len())?;
-    for index in 0..codes.len() {
-        values.push(count_where_data(codes[index], numbers[index]))?;
-    }
+    let mut values = vec![in alloc; Count::none(); numbers.len()]?;
+    set_numbers(&mut values, links, numbers);
     Ok(values)
+}
+
+fn set_numbers(values: &mut [Count], links: &TileLinks, numbers: &[u32])
+    requires values { length values.old ≡ length links.now.codes }
+    requires size { length numbers.now ≡ length links.now.codes }
+    requires few { (i : ℕ) → i < length links.now.codes → slice_index numbers.now i < uncounted }
+    ensures { values.new ≡ cell_numbers_by links.now.codes numbers.now }
+{
+    let moves = links.moves();
+    for index in 0..values.len() {
+        values[index] = count_where_data(moves[index], numbers[index]);
+    }
 }

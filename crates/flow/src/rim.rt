@@ -45,10 +45,10 @@ pub(crate) fn rim_ends(
 ) -> Result<Vec<u32>, AllocError>
     requires small { EndsInLargestGrid bounds }
     requires some_row { 1 ≤ bounds.rows }
-    requires size { length links.now ≡ bounds.rows * bounds.cols }
-    requires streams { AreStreams links.now }
-    requires few { length links.now ≤ 2 ^ 30 }
-    ensures { IfOk result (λ v. v.items ≡ rim_ends_by bounds links.now) }
+    requires size { length links.now.links ≡ bounds.rows * bounds.cols }
+    requires streams { AreStreams links.now.links }
+    requires few { length links.now.links ≤ 2 ^ 30 }
+    ensures { IfOk result (λ v. v.items ≡ rim_ends_by bounds links.now.links) }
 {
     let numbers = &OwnNumbers::of(links);
     let paths = Paths { links, numbers };
@@ -67,9 +67,9 @@ fn ends_of_sides(
 ) -> Result<Vec<u32>, AllocError>
     requires small { EndsInLargestGrid bounds }
     requires some_row { 1 ≤ bounds.rows }
-    requires size { length paths.now.links.now ≡ bounds.rows * bounds.cols }
-    requires found { AreKnown paths.now.links.now (λ e. e) found.old }
-    ensures { IfOk result (λ v. v.items ≡ rim_ends_by bounds paths.now.links.now) }
+    requires size { length paths.now.links.now.links ≡ bounds.rows * bounds.cols }
+    requires found { AreKnown paths.now.links.now.links (λ e. e) found.old }
+    ensures { IfOk result (λ v. v.items ≡ rim_ends_by bounds paths.now.links.now.links) }
 {
     let mut ends = Vec::with_capacity(alloc, bounds.side_count() as usize)?;
     for side in 0..bounds.side_count() {
@@ -84,11 +84,11 @@ fn ends_of_sides(
 pub(crate) fn end_in(bounds: Bounds, links: &TileLinks, rim_ends: &[u32], place: Place) -> u32
     requires small { EndsInLargestGrid bounds }
     requires inside { IsInBounds bounds place }
-    requires size { length links.now ≡ bounds.rows * bounds.cols }
-    requires streams { AreStreams links.now }
-    requires few { length links.now ≤ 2 ^ 30 }
-    requires rim { rim_ends.now ≡ rim_ends_by bounds links.now }
-    ensures { result ≡ end_of links.now (index_in bounds place) }
+    requires size { length links.now.links ≡ bounds.rows * bounds.cols }
+    requires streams { AreStreams links.now.links }
+    requires few { length links.now.links ≤ 2 ^ 30 }
+    requires rim { rim_ends.now ≡ rim_ends_by bounds links.now.links }
+    ensures { result ≡ end_of links.now.links (index_in bounds place) }
 {
     let side = bounds.side_number(bounds, place);
     if is_place(bounds.side_place(bounds, side), place) {

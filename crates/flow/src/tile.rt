@@ -5,7 +5,6 @@ ghost use Rattle.flow.specs.TileFlow.{directed_by, IsTileFlow, through_in, exit_
 ghost use Rattle.flow.specs.Streams.{AreSums};
 ghost use Rattle.flow.specs.TileLinks.{links_by, weights_by, without_counts};
 
-use crate::cells::tile_weights;
 use crate::streams::totals;
 use crate::tile_exits::{TileExits, tile_exits, where_data};
 use crate::tile_links::TileLinks;
@@ -61,18 +60,11 @@ impl TileFlow {
         &self.exits
     }
 
-    /// Returns the codes of the tile's cells, in the tile's row order.
-    #[inline(always)]
-    pub(crate) fn codes(&self) -> &[Option<Code>]
-        ensures { result.now ≡ self.now.codes }
-    {
-        self.exits.codes()
-    }
-
-    /// Returns the links of the tile's cells.
+    /// Returns the codes and links of the tile's cells.
     #[inline(always)]
     pub(crate) fn links(&self) -> &TileLinks
-        ensures { result.now ≡ links_by self.now.bounds self.now.codes }
+        ensures codes { result.now.codes ≡ self.now.codes }
+        ensures links { result.now.links ≡ links_by self.now.bounds self.now.codes }
     {
         self.exits.links()
     }
@@ -92,7 +84,7 @@ impl TileFlow {
         requires { index < length self.now.codes }
         ensures { result ≡ slice_index_or self.now.through index None }
     {
-        let code = self.exits.codes()[index];
+        let code = self.exits.links().code(index);
         where_data(code, self.totals[index].saturating_sub(1))
     }
 
@@ -125,7 +117,8 @@ pub fn tile_flow(alloc: Global, codes: &TileView<'_, Option<Code>>) -> Result<Ti
     // The call brings the prover `IsView` of the codes, which `bounds` ensures.
     prove!(codes.bounds().cols > 0);
     let exits = tile_exits(alloc, codes)?;
-    let weights = tile_weights(alloc, exits.codes())?;
-    let totals = totals(alloc, exits.links(), weights)?;
+    let links = exits.links();
+    let weights = links.weights(alloc)?;
+    let totals = totals(alloc, links, weights)?;
     Ok(TileFlow { exits, totals })
 }

@@ -24,7 +24,6 @@ use tiles::{Bounds, TileView};
 #[derive(Drop)]
 pub struct TileExits {
     bounds: Bounds,
-    codes: Vec<Option<Code>>,
     links: TileLinks,
     // The index where each rim cell's path along links ends, by `Bounds::side_number` with this
     // tile as the largest. For other cells `end_in` follows the links. A cell without data is
@@ -38,9 +37,9 @@ impl Model for TileExits {
 
     ghost Value = { Flow };
 
-    ghost view = { λ f. flow_by f.bounds f.codes.items (ends_by f.links) };
+    ghost view = { λ f. flow_by f.bounds f.links.codes (ends_by f.links.links) };
 
-    ghost invariant = { λ f. AreFlowLists f.bounds f.codes.items f.links f.rim_ends.items };
+    ghost invariant = { λ f. AreFlowLists f.bounds f.links.codes f.links.links f.rim_ends.items };
 }
 
 impl TileExits {
@@ -49,7 +48,7 @@ impl TileExits {
         ensures { result ≡ entry_in self.now.bounds self.now.codes place }
     {
         if self.bounds.contains(place) {
-            self.codes[self.bounds.index_of(place)]
+            self.links.code(self.bounds.index_of(place))
         } else {
             None
         }
@@ -64,18 +63,11 @@ impl TileExits {
         self.bounds
     }
 
-    /// Returns the codes of the tile's cells, in the tile's row order.
-    #[inline(always)]
-    pub(crate) fn codes(&self) -> &[Option<Code>]
-        ensures { result.now ≡ self.now.codes }
-    {
-        &self.codes
-    }
-
-    /// Returns the links of the tile's cells.
+    /// Returns the codes and links of the tile's cells.
     #[inline(always)]
     pub(crate) fn links(&self) -> &TileLinks
-        ensures { result.now ≡ links_by self.now.bounds self.now.codes }
+        ensures codes { result.now.codes ≡ self.now.codes }
+        ensures links { result.now.links ≡ links_by self.now.bounds self.now.codes }
     {
         &self.links
     }
@@ -88,7 +80,7 @@ impl TileExits {
     {
         let end = end_in(self.bounds, &self.links, &self.rim_ends, place);
         where_data(
-            self.codes[self.bounds.index_of(place)],
+            self.links.code(self.bounds.index_of(place)),
             self.bounds.place_at(end),
         )
     }
@@ -159,7 +151,6 @@ pub(crate) fn tile_exits(
     let rim_ends = rim_ends(alloc, bounds, &links)?;
     Ok(TileExits {
         bounds,
-        codes: cells,
         links,
         rim_ends,
     })

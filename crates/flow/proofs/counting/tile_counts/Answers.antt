@@ -8,19 +8,23 @@ use Rattle.flow.specs.Counting.{AreCounts}
 use Rattle.flow.proofs.counting.tile_counts.Goals as goal
 
 pub inflow_weights-requires-clause-size : goal.inflow_weights-requires-clause-size
-inflow_weights-requires-clause-size c = ap length c.codes-codes.ensures
-    ∙ c.requires.countable.size
+inflow_weights-requires-clause-size c = omega (
+  arith,
+  c.totals-totals.ensures.size,
+  c.requires.countable.linked,
+  c.requires.countable.size,
+)
 
 pub totals_of_few-requires-clause-streams : goal.totals_of_few-requires-clause-streams
 totals_of_few-requires-clause-streams c =
-    rw c.links.ensures c.requires.countable.streams
+    rw c.links-links.ensures.links c.requires.countable.streams
 
 pub totals_of_few-requires-clause-few : goal.totals_of_few-requires-clause-few
 totals_of_few-requires-clause-few c = omega (
   arith,
   c.requires.countable.few,
   c.requires.countable.linked,
-  ap length c.links.ensures,
+  ap length c.links-links.ensures.links,
 )
 
 pub totals_of_few-requires-clause-same : goal.totals_of_few-requires-clause-same
@@ -29,7 +33,7 @@ totals_of_few-requires-clause-same c = omega (
   c.in_ok-weights.ensures.size,
   c.requires.countable.size,
   c.requires.countable.linked,
-  ap length c.links.ensures,
+  ap length c.links-links.ensures.links,
 )
 
 pub totals_of_few-requires-clause-fits : goal.totals_of_few-requires-clause-fits
@@ -37,16 +41,16 @@ totals_of_few-requires-clause-fits c = λ i h.
     omega (
       arith,
       c.requires.countable.totals_fit c.in_ok-weights.weights.items c.in_ok-weights.ensures i
-          (omega (arith, h, c.requires.countable.linked, ap length c.links.ensures)),
-      ap (λ l. total l c.in_ok-weights.weights.items i) c.links.ensures,
+          (omega (arith, h, c.requires.countable.linked, ap length c.links-links.ensures.links)),
+      ap (λ l. total l c.in_ok-weights.weights.items i) c.links-links.ensures.links,
     )
 
 pub counts-requires-clause-totals : goal.counts-requires-clause-totals
 counts-requires-clause-totals c = omega (
   arith,
-  c.totals.ensures.size,
+  c.totals-totals.ensures.size,
   c.requires.countable.linked,
-  ap length c.codes-codes.ensures,
+  ap length c.links-links.ensures.codes,
 )
 
 added_by : (f : Flow) {links weights added : List ℕ} → links ≡ links_by f.bounds f.codes →
@@ -57,22 +61,22 @@ pub counts-requires-clause-added : goal.counts-requires-clause-added
 counts-requires-clause-added c =
     omega (
       arith,
-      (added_by c.args.flow.now c.links.ensures c.in_ok-added.ensures).size,
+      (added_by c.args.flow.now c.links-links.ensures.links c.in_ok-added.ensures).size,
       c.requires.countable.linked,
       ap length c.deref.ensures.value,
-      ap length c.codes-codes.ensures,
+      ap length c.links-links.ensures.codes,
     )
 
 pub counts-requires-clause-fits : goal.counts-requires-clause-fits
 counts-requires-clause-fits c = λ i h.
     let below : i < length c.args.flow.now.codes =
-    omega (arith, h, ap length c.codes-codes.ensures) in
+    omega (arith, h, ap length c.links-links.ensures.codes) in
     let there : i < length (links_by c.args.flow.now.bounds c.args.flow.now.codes) =
     omega (arith, below, c.requires.countable.linked) in
     omega (
       arith,
-      c.totals.ensures.each i there,
-      (added_by c.args.flow.now c.links.ensures c.in_ok-added.ensures).each i there,
+      c.totals-totals.ensures.each i there,
+      (added_by c.args.flow.now c.links-links.ensures.links c.in_ok-added.ensures).each i there,
       c.requires.countable.totals_fit c.in_ok-weights.weights.items c.in_ok-weights.ensures i below,
       ap (λ (l : List ℕ). get_or l i 0) c.deref.ensures.value,
     )
@@ -80,21 +84,21 @@ counts-requires-clause-fits c = λ i h.
 pub returns : goal.returns
 returns c =
     IfOk-weaker c.counts.result
-    (λ (v : Vec (Option ℕ) Global). v.items ≡ counts_by c.codes-codes.result.now
-    (λ i. slice_index c.totals.result.now i + slice_index c.deref.result.now i))
+    (λ (v : Vec (Option ℕ) Global). v.items ≡ counts_by c.links-links.result.now.codes
+    (λ i. slice_index c.totals-totals.result.now i + slice_index c.deref.result.now i))
     (λ (v : Vec (Option ℕ) Global).
     AreCounts c.args.inflows.now c.args.tile c.args.flow.now v.items)
     (λ v e. record {
       weights = c.in_ok-weights.weights.items;
-      totals = c.totals.result.now;
+      totals = c.totals-totals.result.now;
       added = c.in_ok-added.added.items;
       weighed = c.in_ok-weights.ensures;
-      counted = c.totals.ensures;
-      summed = added_by c.args.flow.now c.links.ensures c.in_ok-added.ensures;
+      counted = c.totals-totals.ensures;
+      summed = added_by c.args.flow.now c.links-links.ensures.links c.in_ok-added.ensures;
       made = e ∙ ap (λ (x : List (Option ℕ)). counts_by x
-          (λ i. slice_index c.totals.result.now i + slice_index c.deref.result.now i))
-          c.codes-codes.ensures
+          (λ i. slice_index c.totals-totals.result.now i + slice_index c.deref.result.now i))
+          c.links-links.ensures.codes
           ∙ ap (λ (l : List ℕ). counts_by c.args.flow.now.codes
-          (λ i. slice_index c.totals.result.now i + slice_index l i))
+          (λ i. slice_index c.totals-totals.result.now i + slice_index l i))
           c.deref.ensures.value;
     }) c.counts.ensures

@@ -16,7 +16,7 @@ bounds-rim_ends-side c =
       c.side_number-side.ensures,
       ap length c.requires.rim,
       length-map-range_with_len (λ side.
-          end_of c.args.links.now (index_in b (side_place b b side))) 0 (stride b),
+          end_of c.args.links.now.links (index_in b (side_place b b side))) 0 (stride b),
     )
 
 pub returns-then-is_place : goal.returns-then-is_place
@@ -29,7 +29,7 @@ returns-then-is_place c =
       c.side_number-side.ensures,
     ) in
     ap (λ xs. get_or xs side 0) c.requires.rim
-    ∙ get_or-map-range_with_len (λ i. end_of c.args.links.now (index_in b (side_place b b i))) 0
+    ∙ get_or-map-range_with_len (λ i. end_of c.args.links.now.links (index_in b (side_place b b i))) 0
     (stride b) side side 0 below (omega arith)
-    ∙ ap (λ p. end_of c.args.links.now (index_in b p)) (sym c.side_place.ensures
+    ∙ ap (λ p. end_of c.args.links.now.links (index_in b p)) (sym c.side_place.ensures
     ∙ place_is _ _ (sym c.is_place.ensures ∙ c.if-is_place.true))

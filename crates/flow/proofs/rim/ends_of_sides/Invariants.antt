@@ -8,7 +8,7 @@ use Rattle.flow.proofs.rim.ends_of_sides.Given as goal
 
 abbrev pub invariant-loop-side : goal.invariant-loop-side
 invariant-loop-side l = record {
-  found : AreKnown l.paths.links.now (λ e. e) l.found;
-  ends : l.ends.items ≡ map (λ side. end_of l.paths.links.now
+  found : AreKnown l.paths.links.now.links (λ e. e) l.found;
+  ends : l.ends.items ≡ map (λ side. end_of l.paths.links.now.links
       (index_in l.bounds (side_place l.bounds l.bounds side))) (range_with_len 0 l.side);
 }

@@ -10,23 +10,23 @@ use Rattle.flow.proofs.tile.tile_flow.Goals as goal
 pub totals-requires-clause-streams : goal.totals-requires-clause-streams
 totals-requires-clause-streams c =
     let s = lists_seen c.in_ok-exits.ensures c.requires c.bounds.ensures.lawful in
-    rw c.links.ensures (streams s)
+    rw c.links-links.ensures.links (streams s)
 
 pub totals-requires-clause-few : goal.totals-requires-clause-few
 totals-requires-clause-few c =
     let s = lists_seen c.in_ok-exits.ensures c.requires c.bounds.ensures.lawful in
-    omega (arith, few s, ap length c.links.ensures)
+    omega (arith, few s, ap length c.links-links.ensures.links)
 
 pub totals-requires-clause-same : goal.totals-requires-clause-same
 totals-requires-clause-same c =
     let s = lists_seen c.in_ok-exits.ensures c.requires c.bounds.ensures.lawful in
-    ap length (c.in_ok-weights.ensures ∙ ap weights_by c.codes.ensures) ∙ weights_size c.in_ok-exits.exits.codes
-    ∙ sym (ap length c.links.ensures ∙ sizes s)
+    let weighed = c.in_ok-weights.ensures ∙ ap weights_by c.links-links.ensures.codes in
+    ap length weighed ∙ weights_size c.in_ok-exits.exits.codes ∙ sym (ap length c.links-links.ensures.links ∙ sizes s)
 
 pub totals-requires-clause-fits : goal.totals-requires-clause-fits
 totals-requires-clause-fits c =
     let s = lists_seen c.in_ok-exits.ensures c.requires c.bounds.ensures.lawful in
-    rw c.links.ensures (rw (c.in_ok-weights.ensures ∙ ap weights_by c.codes.ensures) (fits s))
+    rw c.links-links.ensures.links (rw (c.in_ok-weights.ensures ∙ ap weights_by c.links-links.ensures.codes) (fits s))
 
 summed_by : (f : Flow) {links codes_weights totals : List ℕ} → links ≡ links_by f.bounds f.codes →
     codes_weights ≡ weights_by f.codes → AreSums links codes_weights totals →
@@ -36,10 +36,10 @@ summed_by f made weighed summed =
 
 pub invariant_of-result : goal.invariant_of-result
 invariant_of-result c =
-    let s = lists_seen c.in_ok-exits.ensures c.requires c.bounds.ensures.lawful in (
-      c.in_ok-totals.ensures.size ∙ ap length c.links.ensures ∙ sizes s,
-      summed_by c.in_ok-exits.exits c.links.ensures (c.in_ok-weights.ensures ∙ ap weights_by c.codes.ensures)
-          c.in_ok-totals.ensures,
+    let s = lists_seen c.in_ok-exits.ensures c.requires c.bounds.ensures.lawful in
+    let weighed = c.in_ok-weights.ensures ∙ ap weights_by c.links-links.ensures.codes in (
+      c.in_ok-totals.ensures.size ∙ ap length c.links-links.ensures.links ∙ sizes s,
+      summed_by c.in_ok-exits.exits c.links-links.ensures.links weighed c.in_ok-totals.ensures,
     )
 
 pub returns : goal.returns
@@ -48,10 +48,10 @@ returns c =
     let f = c.in_ok-exits.exits in
     let totals = c.in_ok-totals.totals.items in
     let s = lists_seen c.in_ok-exits.ensures c.requires c.bounds.ensures.lawful in
+    let weighed = c.in_ok-weights.ensures ∙ ap weights_by c.links-links.ensures.codes in
     record {
       exits = exits_kept (counts_by f.codes (slice_index totals))
           c.in_ok-exits.ensures;
-      counts = counts_are s (summed_by f c.links.ensures
-          (c.in_ok-weights.ensures ∙ ap weights_by c.codes.ensures) c.in_ok-totals.ensures) (with_counts f totals)
-          refl refl;
+      counts = counts_are s (summed_by f c.links-links.ensures.links weighed c.in_ok-totals.ensures)
+          (with_counts f totals) refl refl;
     }

@@ -14,3 +14,9 @@ loop-index-preserved c =
       each = each_set (λ i move. IsInteriorMove (get_or cells i None) move) c.loop-index.moves k c.interior_move.result
           (omega arith) (rw read at c.interior_move.ensures) c.loop-index.invariant.each;
     }
+
+pub returns : goal.returns
+returns c = record {
+  size = c.loop-index.invariant.size;
+  each = λ i h. c.loop-index.invariant.each i (omega (arith, h));
+}

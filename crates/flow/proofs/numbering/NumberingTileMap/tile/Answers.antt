@@ -34,7 +34,7 @@ cell_numbers-requires-clause-size g c =
       ap length c.deref.ensures.value,
       c.in_ok-numbers.ensures.size,
       ready.numbered.codes_size,
-      ap length c.codes.ensures,
+      ap length c.links.ensures.codes,
     )
 
 pub returns : goal.returns
@@ -45,7 +45,7 @@ returns g c =
     slice_get_read m.flows.items (length m.flows.items) c.args.tile f refl
     (omega (arith, c.requires, m.ready.count)) c.index-flow.ensures in
     let ready = m.ready.each c.args.tile f there in
-    let made = c.in_ok-values.ensures ∙ ap (λ l. cell_numbers_by l c.deref.result.now) c.codes.ensures
+    let made = c.in_ok-values.ensures ∙ ap (λ l. cell_numbers_by l c.deref.result.now) c.links.ensures.codes
     ∙ ap (cell_numbers_by f.codes) c.deref.ensures.value in
     let size = ap length made ∙ length-map-range_with_len (λ i.
     where_data (get_or f.codes i None) (get_or c.in_ok-numbers.numbers.items i 0)) 0 (length f.codes)
