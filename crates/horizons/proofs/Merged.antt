@@ -16,8 +16,8 @@ pub even_between : (targets : List Target) (r s : Ramp) (b : Bool) (i j : ℕ) �
 even_between targets r s b i j are h few first last k t low high at =
     let at_i = slice_get-get_or targets i t (omega arith) in
     let at_j = slice_get-get_or targets j t few in
-    same_between targets r s b i k j (get_or targets i t) t (get_or targets j t) are low
-    (omega arith) at_i at at_j (first (get_or targets i t) at_i) (last (get_or targets j t) at_j)
+    same_between targets r s b i k j _ t _ are low
+    (omega arith) at_i at at_j (first _ at_i) (last _ at_j)
 
 pub only : (targets : List Target) (r s : Ramp) (b : Bool) (i : ℕ) → ((t : Target) →
     slice_get targets i ≡ Some t → is_ramp_above r s t ≡ b) → IsAboveOn targets r s b i (i + 1)

@@ -53,7 +53,7 @@ count_up_to (q ∷ ps) (suc k) i few before =
 -- If no piece before piece k has an `end` above i, and i is below the target count, piece k
 -- exists.
 pub inside : (ps : List Piece) (k i : ℕ) → AreUpTo ps k i → i < target_count ps → k < length ps
-inside ps k i before h = elim (cases_lt k (length ps)) [
+inside ps k i before h = elim (cases_lt k _) [
   | inl is ↦ is
   | inr past ↦ absurd (omega (arith, count_up_to ps k i past before))
 ]
@@ -86,9 +86,9 @@ added_kept : (ps : List Piece) (p : Piece) (i : ℕ) → i < target_count ps →
     ramp_at (ps ++ p ∷ []) i ≡ ramp_at ps i
 unfolding target_count
 added_kept [] p i h = absurd (omega arith)
-added_kept (q ∷ ps) p i h = elim (cases_lt i q.end) [
-  | inl here ↦ ramp_at-here q (ps ++ p ∷ []) i here ∙ sym (ramp_at-here q ps i here)
-  | inr later ↦ ramp_at-later q (ps ++ p ∷ []) i later ∙ added_kept ps p i (omega arith)
+added_kept (q ∷ ps) p i h = elim (cases_lt i _) [
+  | inl here ↦ ramp_at-here q _ i here ∙ sym (ramp_at-here q ps i here)
+  | inr later ↦ ramp_at-later q _ i later ∙ added_kept ps p i (omega arith)
       ∙ sym (ramp_at-later q ps i later)
 ]
 
@@ -96,7 +96,7 @@ added_new : (ps : List Piece) (p : Piece) (i : ℕ) → target_count ps ≤ i �
     ramp_at (ps ++ p ∷ []) i ≡ Some p.ramp
 unfolding target_count
 added_new [] p i past h = ramp_at-here p [] i h
-added_new (q ∷ ps) p i past h = ramp_at-later q (ps ++ p ∷ []) i (omega arith)
+added_new (q ∷ ps) p i past h = ramp_at-later q _ i (omega arith)
     ∙ added_new ps p i (omega arith) h
 
 pub pushed : (ps : List Piece) (p : Piece) → IsPushed ps p.end p.ramp (ps ++ p ∷ [])
@@ -129,9 +129,9 @@ longer_kept (z ∷ []) zero p q i last e h same h_i =
     ramp_at-here p [] i (omega arith) ∙ ap Some (sym same)
     ∙ ap (λ (y : Piece). Some y.ramp) (sym z_is) ∙ sym (ramp_at-here z [] i (omega arith))
 longer_kept (z ∷ y ∷ ps) zero p q i last e h same h_i = absurd (omega arith)
-longer_kept (z ∷ ps) (suc k) p q i last e h same h_i = elim (cases_lt i z.end) [
-  | inl here ↦ ramp_at-here z (set ps k p) i here ∙ sym (ramp_at-here z ps i here)
-  | inr later ↦ ramp_at-later z (set ps k p) i later ∙ longer_kept ps k p q i (omega arith) e h same
+longer_kept (z ∷ ps) (suc k) p q i last e h same h_i = elim (cases_lt i _) [
+  | inl here ↦ ramp_at-here z _ i here ∙ sym (ramp_at-here z ps i here)
+  | inr later ↦ ramp_at-later z _ i later ∙ longer_kept ps k p q i (omega arith) e h same
       (omega arith) ∙ sym (ramp_at-later z ps i later)
 ]
 
@@ -141,7 +141,7 @@ unfolding target_count
 longer_new [] k p q i last e past h = absurd (omega arith)
 longer_new (z ∷ []) zero p q i last e past h = ramp_at-here p [] i h
 longer_new (z ∷ y ∷ ps) zero p q i last e past h = absurd (omega arith)
-longer_new (z ∷ ps) (suc k) p q i last e past h = ramp_at-later z (set ps k p) i (omega arith)
+longer_new (z ∷ ps) (suc k) p q i last e past h = ramp_at-later z _ i (omega arith)
     ∙ longer_new ps k p q i (omega arith) e (omega arith) h
 
 pub lengthened : (ps : List Piece) (k : ℕ) (p q : Piece) → k + 1 ≡ length ps → slice_get ps k

@@ -72,7 +72,7 @@ grows : (p q c e : ℕ) (t u : Target) → p ≤ q → IsSlopeUpTo t u → Grows
 grows p q c e t u h slope =
     let sum : p + (q - p) ≡ q = omega arith in
     let P : ℕ → Type 0 = λ n. Grows p n c e t u in
-    subst P sum (gaining p (q - p) c e t u slope)
+    subst P sum (gaining p _ c e t u slope)
 
 positive : (a b c d n m : ℕ) → 0 < m → a < b → b * m + c * n ≤ d * n + a * m → c < d
 positive a b c d n m some less h =
@@ -121,11 +121,11 @@ above_between : (r s : Ramp) (t u v : Target) (b : Bool) → IsTarget t → IsTa
     IsSlopeUpTo t u → IsSlopeUpTo u v → is_ramp_above r s t ≡ b → is_ramp_above r s v ≡ b →
     is_ramp_above r s u ≡ b
 above_between r s t u v true is_t is_u is_v low high first last =
-    above_if_over r s u (leads_between (gain s r) (gain r s) (intercept r s)
-    (intercept s r) t u v is_u.line.0 low high
+    above_if_over r s u (leads_between _ _ _
+    _ t u v is_u.line.0 low high
     (over_if_above r s t first) (over_if_above r s v last))
 above_between r s t u v false is_t is_u is_v low high first last =
-    not_if_not_over r s u (holds_between (gain r s) (gain s r) (intercept s r) (intercept r s) t u v
+    not_if_not_over r s u (holds_between _ _ _ _ t u v
     is_t.line.0 is_v.line.0 low high (not_over_if_not r s t first) (not_over_if_not r s v last))
 
 -- Slopes do not fall along sorted targets.

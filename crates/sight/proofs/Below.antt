@@ -28,7 +28,7 @@ smaller a b n less = by_lt_z b a (λ past. absurd
 offsets_rise : (k : ℕ) (a b : ℤ) (s t : Target) → 0 < s.line → 0 < t.line → IsSlopeUpTo s t →
     Passes k a s → Passes k b t → a ≤ℤ b
 offsets_rise k a b s t some more slope low high =
-    let on = low_onward a s.offset t.offset s.line t.line k some slope low.low in
+    let on = low_onward a s.offset t.offset _ t.line k some slope low.low in
     smaller a b t.line (omega (arith, ints, on, high.high))
 
 pub passes_one : (k : ℕ) (offset : ℤ) (t : Target) → PassesAmong k offset offset t →
@@ -44,7 +44,7 @@ among_shows cells f k first last ramp t some among here onward =
     let x = t.offset *ℤ pos k in
     let b = int_div_euclid x (pos t.line) in
     let passes : Passes k b t =
-    record { low = floor_low x t.line some; high = floor_high x t.line some } in
+    record { low = floor_low x _ some; high = floor_high x _ some } in
     let above = smaller first b t.line (omega (arith, ints, among.low, passes.high)) in
     let below = smaller b last t.line (omega (arith, ints, passes.low, among.high)) in
     by_lt_z first b (λ past. onward b past below passes) (λ not.
@@ -77,7 +77,7 @@ passes_between targets none k from end i low high t are few first last a b at =
     let x = t.offset *ℤ pos k in
     let offset = int_div_euclid x (pos t.line) in
     let passes : Passes k offset t =
-    record { low = floor_low x t.line t_line; high = floor_high x t.line t_line } in (
+    record { low = floor_low x _ t_line; high = floor_high x _ t_line } in (
       offset,
       passes,
       offsets_rise k low offset s t s_line t_line
@@ -132,7 +132,7 @@ blocker cells f k y offset rise t is stands later passes blocks =
                     beside = inr refl;
                     inside = (
                       cell.2,
-                      next_inside f.side.at y f.side.cells c t.line k m.0 offset is.side stands.side
+                      next_inside _ y _ c t.line k _ offset is.side stands.side
                           (omega arith) part (at_cell_past f k m.0 y offset t stands m.2) cell.1,
                     );
                     here = here;
@@ -167,7 +167,7 @@ constant_hides : (f : Family) (k : ℕ) (offset near far top rise : ℤ) (t : Ta
     ramp_hides (constant_ramp f k top) t rise ≡ true
 constant_hides f k offset near far top rise t passes a b hides =
     let m = past k offset t passes in
-    let value = ramp_between f k m.0 offset near far t m.1 m.2 in
+    let value = ramp_between f k _ offset near far t m.1 m.2 in
     let few : ((near -ℤ f.eye) *ℤ pos (t.line - m.0)) ≤ℤ ((top -ℤ f.eye) *ℤ pos (t.line - m.0)) =
     grows (near -ℤ f.eye) (top -ℤ f.eye) (t.line - m.0) (omega (arith, ints, a)) in
     let rest : ((far -ℤ f.eye) *ℤ pos m.0) ≤ℤ ((top -ℤ f.eye) *ℤ pos m.0) =
@@ -216,7 +216,7 @@ top_blocks cells f k y low high offset rise top t is stands later passes a b nea
           omega (arith, ints, same, by.at, b)
       | inr more ↦ omega (arith, ints, more, by.at, b)
     ] in
-    constant_hides f k offset by.near by.far top rise t passes
+    constant_hides f k offset _ _ top rise t passes
     (near by.cell by.near by.inside.0 (omega (arith, ints, by.at, a))
     (omega (arith, ints, by.at, b)) by.here)
     (near by.next by.far by.inside.1 above below by.there) by.hides

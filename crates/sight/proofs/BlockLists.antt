@@ -93,8 +93,8 @@ tops_of_tops t near far low high = record {
   above = λ p h is.
       let inside = inside_from_entry t.cols t.rows t.cells p h is in
       let q = make_place (p.row / 16) (p.col / 16) in
-      let row : q.row < blocks_in 16 t.rows = block_before 16 p.row t.rows (omega arith) inside.0 in
-      let col : q.col < blocks_in 16 t.cols = block_before 16 p.col t.cols (omega arith) inside.1 in
+      let row : q.row < blocks_in 16 t.rows = block_before 16 _ _ (omega arith) inside.0 in
+      let col : q.col < blocks_in 16 t.cols = block_before 16 _ _ (omega arith) inside.1 in
       let at : block_of 8 (ground_of (blocks_in 16 t.cols) (blocks_in 16 t.rows) near) q
       ≡ block_of 128 t p =
       ap (λ n. n * blocks_in 8 (blocks_in 16 t.cols) + q.col / 8) (in_block_of_blocks p.row)
@@ -103,8 +103,8 @@ tops_of_tops t near far low high = record {
       let over : (m : ℤ) → get_or near (block_of 16 t p) None ≡ Some m →
       IsTopOf (get_or far (block_of 128 t p) None) m =
       λ m top. subst (λ n. IsTopOf (get_or far n None) m) at (high.above q m
-      (entry-inside (blocks_in 16 t.cols) (blocks_in 16 t.rows) near q row col ∙ top)) in
-      top_over (get_or near (block_of 16 t p) None) (get_or far (block_of 128 t p) None) h over
+      (entry-inside _ _ near q row col ∙ top)) in
+      top_over _ _ h over
       (low.above p h is);
 }
 
@@ -132,8 +132,8 @@ made_tops size t tops some made =
       above = λ p h is.
           let at = inside_from_entry t.cols t.rows t.cells p h is in
           let q = make_place (p.row / size) (p.col / size) in
-          let row = block_before size p.row t.rows some at.0 in
-          let col = block_before size p.col t.cols some at.1 in
+          let row = block_before size _ _ some at.0 in
+          let col = block_before size _ _ some at.1 in
           let own : index_in b q ≡ block_of size t p =
           ap (λ n. n * b.cols + (q.col - 0)) (whole q.row) ∙ ap (λ n. q.row * b.cols + n) (whole q.col)
           in subst (λ n. IsTopOf (get_or tops n None) h) own

@@ -86,8 +86,7 @@ both_sides cells f w height old mid new few inside one two = record {
           | inr beside ↦
               two.kept x y in_lines in_side (λ m c e. omega (arith, e, c.later, c.line.2 refl))
               ∙ one.kept x y in_lines in_side (λ m c e. omega (arith, e, c.later))
-              ∙ unchanged (flag_in_extent w x y old) (walk_blocks cells (sightline_to cells f height
-              x y)) (none_between cells (sightline_to cells f height x y) (omega arith))
+              ∙ unchanged (flag_in_extent w x y old) _ (none_between cells (sightline_to cells f height x y) (omega arith))
         ]
       ];
 }

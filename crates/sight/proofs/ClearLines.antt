@@ -36,10 +36,10 @@ IsUp z m k = ((pos 0 ≤ℤ z) × (m ≤ k)) ⊎ ((z ≤ℤ pos 0) × (k ≤ m))
 products_rise : (z : ℤ) (m k : ℕ) → IsUp z m k → (z *ℤ pos m) ≤ℤ (z *ℤ pos k)
 products_rise z m k (inl up) =
     let k_is : k ≡ m + (k - m) = omega (arith, up.1) in
-    omega (arith, ints, grows (pos 0) z (k - m) up.0, ap (λ n. z *ℤ pos n) k_is)
+    omega (arith, ints, grows _ z (k - m) up.0, ap (λ n. z *ℤ pos n) k_is)
 products_rise z m k (inr up) =
     let m_is : m ≡ k + (m - k) = omega (arith, up.1) in
-    omega (arith, ints, grows z (pos 0) (m - k) up.0, ap (λ n. z *ℤ pos n) m_is)
+    omega (arith, ints, grows z _ (m - k) up.0, ap (λ n. z *ℤ pos n) m_is)
 
 -- let target t have an index from `from` to below `end`, and the ray to the first of these targets
 -- pass line m at offset `low`, that to the last line n at `high`. The ray to t crosses line k
@@ -60,17 +60,17 @@ passes_within targets none m n k from end i low high t are few first up last dow
     let x = t.offset *ℤ pos k in
     let offset = int_div_euclid x (pos t.line) in
     let low_s : (low *ℤ pos s.line) ≤ℤ (s.offset *ℤ pos k) =
-    omega (arith, ints, first.low, products_rise s.offset m k up) in
-    let low_t = low_onward low s.offset t.offset s.line t.line k (are.each from s at_s).line.0
+    omega (arith, ints, first.low, products_rise _ m k up) in
+    let low_t = low_onward low s.offset t.offset _ t.line k (are.each from s at_s).line.0
     (slope_up targets from i s t are a at_s at) low_s in
     let high_u : (u.offset *ℤ pos k) <ℤ ((high +ℤ pos 1) *ℤ pos u.line) =
-    omega (arith, ints, last.high, products_rise u.offset k n down) in
-    let high_t = high_back (high +ℤ pos 1) t.offset u.offset t.line u.line k some
+    omega (arith, ints, last.high, products_rise _ k n down) in
+    let high_t = high_back (high +ℤ pos 1) t.offset u.offset _ u.line k some
     (slope_up targets i (end - 1) t u are (omega arith) at at_u) high_u in (
       offset,
-      record { low = floor_low x t.line some; high = floor_high x t.line some },
-      smaller low offset t.line (omega (arith, ints, low_t, floor_high x t.line some)),
-      smaller offset high t.line (omega (arith, ints, high_t, floor_low x t.line some)),
+      record { low = floor_low x _ some; high = floor_high x _ some },
+      smaller low offset t.line (omega (arith, ints, low_t, floor_high x _ some)),
+      smaller offset high t.line (omega (arith, ints, high_t, floor_low x _ some)),
     )
 
 -- what the line that `line_of_low` returns says of products
@@ -104,7 +104,7 @@ hides_from f n k top rise t some line (inr low) hides =
     (arith, ints, line, grows (top -ℤ f.eye) (pos 0 -ℤ pos 1) t.line (omega (arith, ints, low.0))) in
     sym (true_is_lt (rise *ℤ pos n) value (by_lt_z rise (pos 0)
     (λ below. omega (arith, ints, hides, products_rise rise n k (inr (omega (arith, ints, below), low.1))))
-    (λ above. absurd (omega (arith, ints, hides, down, grows (pos 0) rise k above)))))
+    (λ above. absurd (omega (arith, ints, hides, down, grows _ rise k above)))))
 
 -- no cell of line k near the rays is above a top that no block of a line beside it exceeds
 pub none_near : (cells : List (Option ℤ)) (f : Family) (tops : List (Option ℤ)) (b : LineBlocks)
@@ -117,7 +117,7 @@ none_near cells f tops b line last k low high top are blocks from to over c h in
     let here = blocks k from to in
     let above = subst (λ n. IsTopOf (get_or tops (n * b.across + c / 16 * b.along) None) h) here.1
     (are.above (lead_of f k) c h here.0 inside is) in
-    top_over (get_or tops (lead_of f line / 16 * b.across + c / 16 * b.along) None) top h
+    top_over _ top h
     (λ m at. over c m inside left right at) above
 
 -- a target that one of the lines blocks is hidden by ground as high as the top, on this line
@@ -144,7 +144,7 @@ module _ (t : Terrain) (b : Bounds) (p : Place) (e : ℤ) (tops : List (Option �
       IsTopOf (get_or tops j None) h
   above_at x y i j h row col i_is j_is is =
       subst (λ n. IsTopOf (get_or tops n None) h) (sym j_is) (are.above (make_place y x) h
-      (entry-inside t.cols t.rows t.cells (make_place y x) row col
+      (entry-inside _ _ t.cells (make_place y x) row col
       ∙ ap (λ n. get_or t.cells n None) (sym i_is) ∙ is))
 
   pub column_tops : AreLineTops t.cells (family_of (columns_at b p) (rows_at t b p) e) tops

@@ -76,7 +76,7 @@ pub ray_is_target : (f : Family) (w : Extent) (flags : List Bool) (t : Target) �
 ray_is_target f w flags t is_f is_w ray = record {
   line = (
     omega (arith, ray.crosses.later),
-    near_line f.lines.back f.lines.at t.line is_f.lines ray.crosses.line.2
+    near_line _ _ _ is_f.lines ray.crosses.line.2
         (omega (arith, ray.crosses.within, is_w.lines)),
   );
   offset = omega (arith, ints, ray.stands.offset, ray.stands.side, is_f.side, is_f.cells);
@@ -137,7 +137,7 @@ left_open : (cells : List (Option ℤ)) (f : Family) (w : Extent) (height : ℕ)
     (n y : ℕ) → is_blocked_before cells f n y (rise_at cells f height n y) n ≡ false
     → flag_left cells f w height old n y ≡ flag_in_extent w (lead_of f n) y old
 left_open cells f w height old n y is =
-    and_true (flag_in_extent w (lead_of f n) y old) _ (ap not is)
+    and_true _ _ (ap not is)
 
 -- a target is at only one cell of one line
 pub same_target : (f : Family) (t : Target) (m z y : ℕ) → IsAtCell f y t → t ≡ target_at f m z →
@@ -194,9 +194,9 @@ blocked_tested cells f w height rays n old flags t y apart is_w at_t stands in_y
     λ x z other. get_or-set_other flags i (flag_index w x z) false false other in
     let met : (m z : ℕ) → Crosses f w m → IsInRun w.side z → flag_index w (lead_of f m) z ≡ i →
     (m ≡ t.line) × (z ≡ y) = λ m z crossed in_z same.
-    let cell = same_cell w (lead_of f m) z
-    (lead_of f t.line) y apart crossed.within in_z crosses.within in_y same in
-    (line_from f.lines.back f.lines.at m t.line crossed.line.2 crosses.line.2 cell.0, cell.1) in
+    let cell = same_cell w _ z
+    _ y apart crossed.within in_z crosses.within in_y same in
+    (line_from _ _ m _ crossed.line.2 crosses.line.2 cell.0, cell.1) in
     record {
       size = length-set flags i false ∙ were.size;
       tested = λ u m z below at crossed in_z. elim (cases_eq (flag_index w (lead_of f m) z) i) [
@@ -218,7 +218,7 @@ blocked_tested cells f w height rays n old flags t y apart is_w at_t stands in_y
         ]
       ];
       kept = λ x z in_x in_z not_crossed. there x z (λ same. not_crossed t.line crosses
-          (sym (same_cell w x z (lead_of f t.line) y apart in_x in_z crosses.within in_y same).0))
+          (sym (same_cell w x z _ y apart in_x in_z crosses.within in_y same).0))
           ∙ were.kept x z in_x in_z not_crossed;
     }
 
@@ -263,7 +263,7 @@ all_tested cells f w height rays old new are tested = record {
         tested.tested ray.0 n y
         (slice_get_within rays ray.0 (target_at f n y) ray.1) ray.1 crosses in_y
     | inr unflagged ↦ elim (tested.crossed n y crosses in_y) [
-      | inl e ↦ e ∙ unflagged ∙ sym (and_left (flag_in_extent w (lead_of f n) y old) _ unflagged)
+      | inl e ↦ e ∙ unflagged ∙ sym (and_left _ _ unflagged)
       | inr e ↦ e
     ]
   ];

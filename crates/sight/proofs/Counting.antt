@@ -29,7 +29,7 @@ value_counted : (t : Terrain) (os : List Observer) (target radius i : ℕ) (d : 
     ≡ value_at t (take (i + 1) os) target radius p
 value_counted t os target radius i d p true less e =
     counted_yes (height_at t p) (viewshed_value t (take i os) target radius p)
-    (viewshed_value t (take (i + 1) os) target radius p)
+    _
     (count_by_more_yes (λ (o : Observer). is_seen t o p target radius) os i d less e)
 value_counted t os target radius i d p false less e =
     ap (λ n. option_map (λ _. n) (height_at t p))
@@ -87,7 +87,7 @@ few t os target radius i b values made k n e = elim (cases_lt k (length values))
       made.each p (place_inside b k below) (omega (arith, index_in-place_in b k)) (get_or values k None)
       (ap (slice_get values) (index_in-place_in b k) ∙ slice_get-get_or values k None less) in
       let is : n ≡ viewshed_value t (take i os) target radius p =
-      value_few (height_at t p) n (viewshed_value t (take i os) target radius p) (sym here ∙ e) in
+      value_few (height_at t p) n _ (sym here ∙ e) in
       omega (
         arith,
         count_by-le-length (λ (o : Observer). is_seen t o p target radius) (take i os),

@@ -33,7 +33,7 @@ pub line_ended : (f : Family) (w : Extent) (flags : List Bool) (n c : ℕ) (rays
     w.side.first + w.side.cells ≤ c → c ≤ 4096 → AreRays f w flags n c rays →
     AreRays f w flags (n + 1) 0 rays
 line_ended f w flags n c rays all few are =
-    lines_passed f w flags n c (n + 1) rays (omega arith) (omega (arith, are.few))
+    lines_passed f w flags n c _ rays (omega arith) (omega (arith, are.few))
     (λ m y h crosses in_run. elim (cases_lt m n) [
       | inl less ↦ inl less
       | inr not ↦ inr (omega arith, omega arith)
@@ -41,7 +41,7 @@ line_ended f w flags n c rays all few are =
 
 pub line_passed : (f : Family) (w : Extent) (flags : List Bool) (n : ℕ) (rays : List Target) →
     (Crosses f w n → ⊥) → AreRays f w flags n 0 rays → AreRays f w flags (n + 1) 0 rays
-line_passed f w flags n rays not_there are = lines_passed f w flags n 0 (n + 1) rays (omega arith)
+line_passed f w flags n rays not_there are = lines_passed f w flags n 0 _ rays (omega arith)
     (omega (arith, are.few)) (λ m y h crosses in_run. elim (cases_lt m n) [
       | inl less ↦ inl less
       | inr not ↦
@@ -113,7 +113,7 @@ cell_taken f w flags n c rays is_f is_w crosses in_run are =
           let kept : (u : ℕ) × (slice_get rays u ≡ Some (target_at f m y)) →
           (u : ℕ) × (slice_get (rays ++ t ∷ []) u ≡ Some (target_at f m y)) = λ was. (
             was.0,
-            slice_get-front rays t was.0 (slice_get_within rays was.0 (target_at f m y) was.1)
+            slice_get-front rays t _ (slice_get_within rays was.0 (target_at f m y) was.1)
                 ∙ was.1,
           ) in
           elim before [

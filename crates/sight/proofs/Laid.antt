@@ -31,7 +31,7 @@ grows a b n h = by (b -ℤ a) refl
 pub before_to : (targets : List Target) (k m : ℕ) (offset : ℤ) (u : Target) → AreTargets targets →
     slice_get targets m ≡ Some u → PassesBefore k offset u → AreBefore targets k offset (m + 1)
 before_to targets k m offset u are at_m before i t below at_i =
-    high_back offset t.offset u.offset t.line u.line k (are.each i t at_i).line.0
+    high_back offset t.offset u.offset _ u.line k (are.each i t at_i).line.0
     (slope_up targets i m t u are (omega arith) at_i at_m) before
 
 -- let the ray to target `from` pass the cell at `offset`. If this ray or a later one crosses line k
@@ -41,7 +41,7 @@ pub passes_onward : (targets : List Target) (k from end i : ℕ) (offset last : 
     AreBefore targets k (last +ℤ pos 1) end
     → from ≤ i → i < end → slice_get targets i ≡ Some t → PassesAmong k offset last t
 passes_onward targets k from end i offset last u t are at_u passes before low high at_t = record {
-  low = low_onward offset u.offset t.offset u.line t.line k (are.each from u at_u).line.0
+  low = low_onward offset u.offset t.offset _ t.line k (are.each from u at_u).line.0
       (slope_up targets from i u t are low at_u at_t) passes.low;
   high = before i t high at_t;
 }
@@ -145,8 +145,7 @@ pub hidden_raised : (cells : List (Option ℤ)) (f : Family) (targets : List Tar
 hidden_raised cells f targets k n i from end highest ramp t over is some hidden low high at = record {
   at = record { lines = (over.each i t ramp at is).lines; value = (over.each i t ramp at is).value };
   clear = λ j y rise past below. hidden j (omega arith) below i t low high at y rise;
-  hides = λ y rise stands later small. either_hides (ramp_hides ramp t rise) (line_blocks cells f
-      t.line y rise k) (hidden k (omega arith) some i t low high at y rise stands later) ∙ (rw is refl);
+  hides = λ y rise stands later small. either_hides _ _ (hidden k (omega arith) some i t low high at y rise stands later) ∙ (rw is refl);
 }
 
 -- a ray from cell `at` to cell y, both at least `first`, crosses each line at `first` or beyond
@@ -175,7 +174,7 @@ passed_low f k y t is stands later before =
     subst (λ (n : ℕ). ((pos y -ℤ pos f.side.at) *ℤ pos k)
     <ℤ ((pos f.side.first -ℤ pos f.side.at) *ℤ pos n)) n_is (subst (λ (a : ℤ).
     (a *ℤ pos k) <ℤ ((pos f.side.first -ℤ pos f.side.at) *ℤ pos t.line)) stands.offset before) in
-    low_side f.side.first f.side.at y k r is.first stands.first
+    low_side _ _ y k r is.first stands.first
     (omega (
       arith,
       ints,
@@ -194,7 +193,7 @@ passed_high f k y t is stands some later past =
     subst (λ (n : ℕ). ((pos f.side.cells -ℤ pos f.side.at) *ℤ pos n)
     ≤ℤ ((pos y -ℤ pos f.side.at) *ℤ pos k)) n_is (subst (λ (a : ℤ).
     ((pos f.side.cells -ℤ pos f.side.at) *ℤ pos t.line) ≤ℤ (a *ℤ pos k)) stands.offset past) in
-    high_side f.side.cells f.side.at y k r some is.side stands.side
+    high_side _ _ y k r some is.side stands.side
     (omega (
       arith,
       ints,
@@ -245,7 +244,7 @@ high_raised cells f targets k from end highest offset u ramp old new some is are
           let last = pos f.side.cells -ℤ pos f.side.at in
           let here : (last *ℤ pos u.line) ≤ℤ (u.offset *ℤ pos k) =
           omega (arith, ints, grows last offset u.line past, passes.low) in
-          let on = low_onward last u.offset t.offset u.line t.line k (are.each from u at_u).line.0
+          let on = low_onward last u.offset t.offset _ t.line k (are.each from u at_u).line.0
           (slope_up targets from i u t are low at_u at_t) here in
           absurd (passed_high f k y t is stands some later on);
     })

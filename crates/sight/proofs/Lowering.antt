@@ -47,8 +47,8 @@ kept t os more o radius p None each is hidden =
     λ h few. each h ∙ or_from _ _ (is h few) (hidden h (omega arith))
 kept t os more o radius p (Some n) each is hidden = (
   is.0,
-  or_left (is_seen_by_any t os p n radius) (is_seen t o p n radius)
-      (is_seen_by_any t more p n radius) (each n) is.1,
+  or_left _ (is_seen t o p n radius)
+      _ (each n) is.1,
   λ h below. each h ∙ or_from _ _ (is.2 h below) (hidden h below),
 )
 
@@ -66,19 +66,19 @@ value_lowered t os radius i d p old new less before lowered =
       | inl lower ↦
           let same : new ≡ Some least =
           lowered.2 ∙ cond-true _ (Some least) old (lt-ltb least (limit_of old) lower) in
-          let low = limit_low t (take i os) radius p old before in
+          let low = limit_low t _ radius p old before in
           subst (IsRiseAt t (take (i + 1) os) radius p) (sym same) (
             omega arith,
-            or_right (is_seen_by_any t (take i os) p least radius) (is_seen t o p least radius)
-                (is_seen_by_any t (take (i + 1) os) p least radius) (each least) (is.seen lower),
+            or_right (is_seen_by_any t (take i os) p least radius) _
+                _ (each least) (is.seen lower),
             λ h below. each h ∙ or_from _ _
-                (none_below t (take i os) radius p old before h (omega arith)) (is.hidden h below),
+                (none_below t _ radius p old before h (omega arith)) (is.hidden h below),
           )
       | inr stays ↦
           let same : new ≡ old =
           lowered.2 ∙ cond-false _ (Some least) old (le-ltb least (limit_of old) stays) in
           subst (IsRiseAt t (take (i + 1) os) radius p) (sym same)
-          (kept t (take i os) (take (i + 1) os) o radius p old each before (λ h below.
+          (kept t _ (take (i + 1) os) o radius p old each before (λ h below.
           is.hidden h (omega arith)))
     ]
 
@@ -96,7 +96,7 @@ tile_lowered t os radius i d b old new less before size each = record {
       let lowered = subst (λ (q : Place). IsLowered t (get_or os i d) radius q (get_or old k None)
       (get_or new k None)) (place_in-index_in b p inside) (each k room) in
       subst (IsRiseAt t (take (i + 1) os) radius p) (get_or_from_slice_get new k entry None is)
-      (value_lowered t os radius i d p (get_or old k None) (get_or new k None) less had lowered);
+      (value_lowered t os radius i d p _ _ less had lowered);
 }
 
 -- if observer i sees no target in the tile, the values stay
@@ -108,7 +108,7 @@ pub tile_kept : (t : Terrain) (os : List Observer) (radius i : ℕ) (d : Observe
 tile_kept t os radius i d b values less before none = record {
   size = before.size;
   each = λ p inside below entry is.
-      kept t (take i os) (take (i + 1) os) (get_or os i d) radius p entry
+      kept t _ _ (get_or os i d) radius p entry
       (λ h. list_any_more (λ (x : Observer). is_seen t x p h radius) os i d less)
       (before.each p inside below entry is) (λ h low. none p h inside);
 }
@@ -119,7 +119,7 @@ pub limits_low : (t : Terrain) (os : List Observer) (radius : ℕ) (b : Bounds)
 limits_low t os radius b values made k = elim (cases_lt k (length values)) [
   | inl less ↦
       let below : k < b.rows * b.cols = omega (arith, made.size) in
-      limit_low t os radius (place_in b k) (get_or values k None)
+      limit_low t os radius _ _
       (made.each (place_in b k) (place_inside b k below) (omega (arith, index_in-place_in b k))
       (get_or values k None) (ap (slice_get values) (index_in-place_in b k)
       ∙ slice_get-get_or values k None less))
@@ -133,5 +133,5 @@ pub whole_rise : (c : Cutting) (t : Terrain) (os : List Observer) (radius : ℕ)
     (values : List (Option ℕ)) → Cuts c t → IsMadeMap c (IsRiseAt t os radius) values →
     IsRise t os radius values
 whole_rise c t os radius values cuts made =
-    let all = map_of_size c t.cols t.rows (IsRiseAt t os radius) values cuts.0 cuts.1 made in
+    let all = map_of_size c _ _ _ values cuts.0 cuts.1 made in
     record { size = all.0; each = all.1 }

@@ -16,11 +16,11 @@ use Rattle.sightlines.proofs.Crossings.{height_is, column_blocks-walk, row_block
 
 pub column_flags : (b : Bounds) (x y n : ℕ) → n ≡ b.rows * b.cols → x < b.cols → y < b.rows →
     x * 1 + y * b.cols < n
-column_flags b x y n size in_x in_y = omega (arith, size, mul-add-lt y b.cols x b.rows in_y in_x)
+column_flags b x y n size in_x in_y = omega (arith, size, mul-add-lt y _ x _ in_y in_x)
 
 pub row_flags : (b : Bounds) (x y n : ℕ) → n ≡ b.rows * b.cols → x < b.rows → y < b.cols →
     x * b.cols + y * 1 < n
-row_flags b x y n size in_x in_y = omega (arith, size, mul-add-lt x b.cols y b.rows in_x in_y)
+row_flags b x y n size in_x in_y = omega (arith, size, mul-add-lt x _ y _ in_x in_y)
 
 -- the equation of a new flag stays true, if index i is replaced by an equal j, and `walked` by an
 -- equal `blocked`
@@ -39,7 +39,7 @@ module _ (t : Terrain) (p : Place) (b : Bounds) (e : ℤ)
       ≡ column_blocks t p q e (height_of t q +ℤ pos target)
   column_walk_is q inside =
       let height =
-      height_is t q.row q.col (q.col * 1 + q.row * t.cols) inside.0 inside.1 (omega arith) in
+      height_is t _ _ (q.col * 1 + q.row * t.cols) inside.0 inside.1 (omega arith) in
       let line : Option ℤ → Sightline = λ h. record {
         lead = columns_of p q;
         side = rows_of t p q;
@@ -54,7 +54,7 @@ module _ (t : Terrain) (p : Place) (b : Bounds) (e : ℤ)
       ≡ row_blocks t p q e (height_of t q +ℤ pos target)
   row_walk_is q inside =
       let height =
-      height_is t q.row q.col (q.row * t.cols + q.col * 1) inside.0 inside.1 (omega arith) in
+      height_is t _ _ (q.row * t.cols + q.col * 1) inside.0 inside.1 (omega arith) in
       let line : Option ℤ → Sightline = λ h. record {
         lead = rows_of t p q;
         side = columns_of p q;
@@ -98,6 +98,6 @@ pub left_both : (b : Bounds) (one two : Place → Bool) (old mid new : List Bool
     AreLeft b one old mid → AreLeft b two mid new → AreLeft b (λ p. one p && two p) old new
 left_both b one two old mid new first second = record {
   size = second.size ∙ first.size;
-  each = λ p inside. and_both (flag_at b old p) (flag_at b mid p) (flag_at b new p) (one p) (two p)
+  each = λ p inside. and_both (flag_at b old p) _ _ (one p) (two p)
       (first.each p inside) (second.each p inside);
 }

@@ -83,9 +83,9 @@ ray_raised cells f w rays n old targets t y v apart within at_t stands in_y cros
     let whole : IsRaised (lines_block_at cells f t.line y)
     (target_in_extent w (lead_of f t.line) y old) v = elim (were.crossed t.line y crosses in_y) [
       | inl e ↦ subst (λ (k : ℕ). IsRaised (lines_block_at cells f t.line y) k v) e raised
-      | inr r ↦ raised_on (lines_block_at cells f t.line y)
-          (target_in_extent w (lead_of f t.line) y old)
-          (target_in_extent w (lead_of f t.line) y targets) v r raised
+      | inr r ↦ raised_on _
+          _
+          _ v r raised
     ] in
     let at_cell : IsRaised (lines_block_at cells f t.line y)
     (target_in_extent w (lead_of f t.line) y old) (target_in_extent w (lead_of f t.line) y new) =
@@ -100,9 +100,9 @@ ray_raised cells f w rays n old targets t y v apart within at_t stands in_y cros
     λ x z other. get_or-set_other targets i (flag_index w x z) v 0 other in
     let met : (m z : ℕ) → Crosses f w m → IsInRun w.side z → flag_index w (lead_of f m) z ≡ i →
     (m ≡ t.line) × (z ≡ y) = λ m z crossed in_z same.
-    let cell = same_cell w (lead_of f m) z
-    (lead_of f t.line) y apart crossed.within in_z crosses.within in_y same in
-    (line_from f.lines.back f.lines.at m t.line crossed.line.2 crosses.line.2 cell.0, cell.1) in
+    let cell = same_cell w _ z
+    _ y apart crossed.within in_z crosses.within in_y same in
+    (line_from _ _ m _ crossed.line.2 crosses.line.2 cell.0, cell.1) in
     record {
       size = length-set targets i v ∙ were.size;
       most = λ k. elim (cases_eq k i) [
@@ -135,7 +135,7 @@ ray_raised cells f w rays n old targets t y v apart within at_t stands in_y cros
         ]
       ];
       kept = λ x z in_x in_z not_crossed. there x z (λ same. not_crossed t.line crosses
-          (sym (same_cell w x z (lead_of f t.line) y apart in_x in_z crosses.within in_y same).0))
+          (sym (same_cell w x z _ y apart in_x in_z crosses.within in_y same).0))
           ∙ were.kept x z in_x in_z not_crossed;
     }
 
@@ -175,9 +175,9 @@ both_sides_raised cells f w flags old mid new few inside most one two = record {
             two.kept x y in_lines in_side (λ m c e. omega (arith, e, c.later)) in
             let raised = one.crossed n y crosses in_side
             (ap (λ z. flag_in_extent w z y flags) at ∙ flagged) in
-            let walked = raised_same (lines_block_at cells (facing f false) n y)
+            let walked = raised_same _
             (λ h. walk_blocks cells (sightline_to cells f h x y))
-            (target_in_extent w (f.lines.at + n) y old) (target_in_extent w (f.lines.at + n) y mid)
+            _ _
             (λ h. sym (lines_block cells (facing f false) h n x y at (omega arith))) raised in
             subst (λ (b : ℕ). Walked (target_in_extent w x y old) b) (sym same)
             (subst (λ (z : ℕ). Walked (target_in_extent w z y old) (target_in_extent w z y mid)) at
@@ -195,10 +195,10 @@ both_sides_raised cells f w flags old mid new few inside most one two = record {
               one.kept x y in_lines in_side (λ m c e. omega (arith, e, c.later)) in
               let raised = two.crossed n y crosses in_side
               (ap (λ z. flag_in_extent w z y flags) at ∙ flagged) in
-              let walked = raised_same (lines_block_at cells (facing f true) n y)
+              let walked = raised_same _
               (λ h. walk_blocks cells (sightline_to cells f h x y))
-              (target_in_extent w (f.lines.at - n) y mid)
-              (target_in_extent w (f.lines.at - n) y new)
+              _
+              _
               (λ h. sym (lines_block cells (facing f true) h n x y at (omega arith))) raised in
               subst (λ (a : ℕ). Walked a (target_in_extent w x y new)) before
               (subst (λ (z : ℕ). Walked (target_in_extent w z y mid) (target_in_extent w z y new))

@@ -141,7 +141,7 @@ pub stays_inside : (o y cells n k m : ℕ) (offset : ℤ) → o < cells → y < 
     → (pos 0 ≤ℤ (pos o +ℤ offset)) × ((pos o +ℤ offset) <ℤ pos cells)
 stays_inside o y cells n k m offset a b few below is =
     let n_is : n ≡ (n - k) + k = omega arith in
-    within o y cells (n - k) k m (pos o +ℤ offset) a b (omega arith)
+    within o y cells (n - k) k m _ a b (omega arith)
     (brought o y k m offset (n - k) (is ∙ ap (λ z. (offset *ℤ pos z) +ℤ pos m) n_is))
   where
     brought : (o y k m : ℕ) (offset : ℤ) (r : ℕ) →

@@ -37,7 +37,7 @@ module _ (f : JobFault) where
   not_place : (t : Terrain) (i : ℕ) (os : List Observer) → IsNot (Jobs f) (place_fault t i os)
   not_place t i [] = λ e. absurd (cc)
   not_place t i (o ∷ rest) =
-      not_or (place_fault_of t i o) _ (not_if (is_outside t o) _ _ (λ e. absurd (cc))
+      not_or _ _ (not_if (is_outside t o) _ _ (λ e. absurd (cc))
       (not_if (is_none (height_at t (place_of o))) _ _ (λ e. absurd (cc)) (λ e. absurd (cc))))
       (not_place t (i + 1) rest)
 
@@ -46,8 +46,7 @@ module _ (f : JobFault) where
   not_jobs t os target radius =
       not_if (ltb 1024 (length os)) _ _ (λ e. absurd (cc))
       (not_if (is_high target) _ _ (λ e. absurd (cc))
-      (not_or (option_map (λ i. BadEye (Some i)) (position_from (λ (o : Observer). is_high o.eye)
-      0 os)) _ (not_eye (position_from (λ (o : Observer). is_high o.eye) 0 os))
+      (not_or _ _ (not_eye (position_from (λ (o : Observer). is_high o.eye) 0 os))
       (not_if (ltb radius 1 || ltb 8192 radius) _ _ (λ e. absurd (cc)) (not_place t 0 os))))
 
 -- if the first fault is f, and is no fault of jobs, the error f satisfies `RefusesSight`

@@ -43,7 +43,7 @@ rises_are_one t os radius values others a b =
     let n = t.cols * t.rows in
     let f : ℕ → Option ℕ = λ k. get_or others k None in
     fill_by_all f values n None a.size (λ k below.
-    same_rise t os radius (place_of_index t.cols k) (get_or values k None) (get_or others k None)
+    same_rise t os radius _ _ _
     (rise_at_index t os radius values k a below) (rise_at_index t os radius others k b below))
     ∙ sym (fill_by_all f others n None b.size (λ k below. refl))
 
@@ -55,7 +55,7 @@ unseen_nodata : (t : Terrain) (os : List Observer) (p : Place) (h radius : ℕ) 
     height_at t p ≡ None → is_seen_by_any t os p h radius ≡ false
 unseen_nodata t [] p h radius none = refl
 unseen_nodata t (o ∷ os) p h radius none =
-    or_from (is_seen t o p h radius) (is_seen_by_any t os p h radius)
+    or_from (is_seen t o p h radius) _
     (rw none (not_of_data (is_some (height_at t (place_of o))) (is_near (place_of o) p radius) _))
     (unseen_nodata t os p h radius none)
 
@@ -113,15 +113,15 @@ zero_where_seen t os radius values seen is view p inside =
           let some : height_at t p ≡ None → ⊥ = λ none.
           let no = unseen_nodata t os p 0 radius none in let yes = at.1 in cc in (
             m,
-            value_counted (height_at t p) m (entry_at t.cols t.rows seen p) some count,
+            value_counted _ m _ some count,
             any_counted test os at.1,
           ),
       λ counted.
-          let same = counted_value (height_at t p) counted.0 m (entry_at t.cols t.rows seen p) count
+          let same = counted_value _ _ m _ count
           counted.1 in
-          let yes : list_any test os ≡ true = true_from_ne_false (list_any test os) (λ none.
+          let yes : list_any test os ≡ true = true_from_ne_false _ (λ none.
           let zero = none_counted test os none in absurd (omega (arith, zero, same, counted.2))) in
-          zero_at t os radius p (entry_at t.cols t.rows values p) value yes,
+          zero_at t os radius p _ value yes,
     )
 
 seen_by_more : (a b c : Bool) → c ≡ (a || b) → a ≡ true → c ≡ true
@@ -146,8 +146,8 @@ raise_nothing t os more radius values lower is fewer p n inside e =
     let at : IsRiseAt t os radius p (Some n) =
     subst (IsRiseAt t os radius p) e (is.each p inside) in
     let test : Observer → Bool = λ o. is_seen t o p n radius in
-    at_most t (os ++ more) radius p n (entry_at t.cols t.rows lower p) at.0 (fewer.each p inside)
-    (seen_by_more (list_any test os) (list_any test more) (list_any test (os ++ more))
+    at_most t _ radius p n _ at.0 (fewer.each p inside)
+    (seen_by_more _ (list_any test more) _
     (list_any-append test os more) at.1)
 
 pub of_data : (t : Terrain) (os : List Observer) (radius : ℕ) (values : List (Option ℕ)) →

@@ -76,9 +76,9 @@ pub crossing_is : (cells : List (Option ℤ)) (f : Family) (k c m y : ℕ) (offs
     ≡ is_above (get_or cells (near_index f k c) None) (t.line - m)
     (get_or cells (near_index f k c + f.side.stride) None) m (sight f.eye (f.eye +ℤ rise) t.line k)
 crossing_is cells f k c m y offset rise t stands later below is at =
-    let cell = cell_is f.side.at y c t.line k m offset (omega arith) below
+    let cell = cell_is f.side.at y c _ k m offset (omega arith) below
     (at_cell_past f k m y offset t stands is) at in
-    let lead = lead_is f t.line k stands.line (omega arith) in
+    let lead = lead_is f _ k stands.line (omega arith) in
     rw (cell.0, cell.1, lead) refl
 
 -- before its target's line, a ray crosses line k at a cell c, or between c and the next cell. The
@@ -88,7 +88,7 @@ pub none_outside : (f : Family) (k y : ℕ) (offset : ℤ) (t : Target) → IsFa
     × (c < f.side.cells)
 none_outside f k y offset t is stands later passes =
     let m = past k offset t passes in
-    let in_side = stays_inside f.side.at y f.side.cells t.line k m.0 offset is.side stands.side
+    let in_side = stays_inside _ y _ _ k _ offset is.side stands.side
     (omega arith) m.1 (at_cell_past f k m.0 y offset t stands m.2) in
     let is_natural = natural (pos f.side.at +ℤ offset) f.side.cells in_side.0 in_side.1 in
     (up (pos f.side.at +ℤ offset), is_natural.0, is_natural.1)
@@ -102,8 +102,8 @@ pub nothing_near : (cells : List (Option ℤ)) (f : Family) (k c y : ℕ) (offse
     → get_or cells (near_index f k c) None ≡ None → line_blocks cells f t.line y rise k ≡ false
 nothing_near cells f k c y offset rise t stands later passes at none =
     let m = past k offset t passes in
-    crossing_is cells f k c m.0 y offset rise t stands later m.1 m.2 at
-    ∙ (rw none (not_shown_near (get_or cells (near_index f k c + f.side.stride) None) t.line m.0
+    crossing_is cells f k c _ y offset rise t stands later m.1 m.2 at
+    ∙ (rw none (not_shown_near (get_or cells (near_index f k c + f.side.stride) None) _ _
     (sight f.eye (f.eye +ℤ rise) t.line k) m.1))
 
 pub nothing_far : (cells : List (Option ℤ)) (f : Family) (k c y : ℕ) (offset rise near : ℤ)
@@ -114,9 +114,9 @@ pub nothing_far : (cells : List (Option ℤ)) (f : Family) (k c y : ℕ) (offset
 nothing_far cells f k c y offset rise near t stands later passes at some none beyond =
     let m = past k offset t passes in
     let part : 0 < m.0 = omega (arith, ints, beyond, m.2) in
-    crossing_is cells f k c m.0 y offset rise t stands later m.1 m.2 at
+    crossing_is cells f k c _ y offset rise t stands later m.1 m.2 at
     ∙ (rw (some, none)
-    (not_shown_far near t.line m.0 (sight f.eye (f.eye +ℤ rise) t.line k) m.1 part))
+    (not_shown_far near _ _ (sight f.eye (f.eye +ℤ rise) t.line k) m.1 part))
 
 pub step_small : (near far : ℤ) → IsHeight near → IsHeight far →
     unsigned_abs (far -ℤ near) ≤ 2 * 10 ^ 15
@@ -129,12 +129,12 @@ base_small near e a b = omega (arith, ints, a, b)
 pub gain_small : (near far : ℤ) (k : ℕ) → IsHeight near → IsHeight far → k ≤ 4096 →
     unsigned_abs ((far -ℤ near) *ℤ pos k) < 2 ^ 63
 gain_small near far k a b few = omega
-    (arith, times_small (far -ℤ near) (pos k) (2 * 10 ^ 15) 4096 (step_small near far a b) few)
+    (arith, times_small (far -ℤ near) (pos k) _ 4096 (step_small near far a b) few)
 
 tilt_within : (near far offset : ℤ) → IsHeight near → IsHeight far → unsigned_abs offset ≤ 4096 →
     unsigned_abs ((far -ℤ near) *ℤ offset) ≤ 8192 * 10 ^ 15
 tilt_within near far offset a b few =
-    omega (arith, times_small (far -ℤ near) offset (2 * 10 ^ 15) 4096 (step_small near far a b) few)
+    omega (arith, times_small (far -ℤ near) offset _ 4096 (step_small near far a b) few)
 
 pub tilt_small : (near far offset : ℤ) → IsHeight near → IsHeight far → unsigned_abs offset ≤ 4096 →
     unsigned_abs ((far -ℤ near) *ℤ offset) < 2 ^ 63
@@ -178,9 +178,9 @@ pub ramp_is : (f : Family) (k : ℕ) (offset near far : ℤ) (t : Target) → Is
     → IsTarget t → Passes k offset t → IsRampAt (ramp_of f k offset near far) t
 ramp_is f k offset near far t is line a b is_t passes =
     let m = past k offset t passes in
-    let between = ramp_between f k m.0 offset near far t m.1 m.2 in
-    let small = between_small (near -ℤ f.eye) (far -ℤ f.eye) (10 ^ 15 + 2 ^ 50)
-    (t.line - m.0) m.0 4096 (base_small near f.eye a is.eye) (base_small far f.eye b is.eye)
+    let between = ramp_between f k _ offset near far t m.1 m.2 in
+    let small = between_small (near -ℤ f.eye) (far -ℤ f.eye) _
+    (t.line - m.0) m.0 4096 (base_small near _ a is.eye) (base_small far _ b is.eye)
     (omega (arith, m.1, is_t.line)) in
     record {
       lines = (line.0, line.1);
@@ -196,8 +196,8 @@ pub shows_ramp : (cells : List (Option ℤ)) (f : Family) (k c y : ℕ) (offset 
     → ramp_hides (ramp_of f k offset near far) t rise ≡ line_blocks cells f t.line y rise k
 shows_ramp cells f k c y offset near far rise t stands later passes at some also =
     let m = past k offset t passes in
-    let here = crossing_is cells f k c m.0 y offset rise t stands later m.1 m.2 at in
-    shown_between near far f.eye rise offset t.offset t.line k m.0 m.1 (omega arith) m.2
+    let here = crossing_is cells f k c _ y offset rise t stands later m.1 m.2 at in
+    shown_between near far f.eye rise offset t.offset _ k _ m.1 (omega arith) m.2
     ∙ sym (here ∙ rw (some, also) refl)
 
 -- let a target's ray cross line k at the centre of cell c. Ground of this cell's height hides the

@@ -33,8 +33,8 @@ module _ (t : Terrain) (p : Place) (b : Bounds) (e : ℤ) (flags : List Bool) (o
       (get_or new k 0) in
       raised_same (λ h. walk_blocks t.cells (sightline_to t.cells
       (family_of (columns_at b p) (rows_at t b p) e) h q.col q.row))
-      (λ h. column_blocks t p q e (height_of t q +ℤ pos h)) (get_or old (index_in b q) 0)
-      (get_or new (index_in b q) 0)
+      (λ h. column_blocks t p q e (height_of t q +ℤ pos h)) _
+      _
       (λ h. column_walk_is t p b e h [] [] observer rows cols q
       (omega (arith, inside.1, rows), omega (arith, inside.3, cols)))
       (subst Walked at (are.each q.col q.row (inside.2, inside.3) (inside.0, inside.1)
@@ -52,8 +52,8 @@ module _ (t : Terrain) (p : Place) (b : Bounds) (e : ℤ) (flags : List Bool) (o
       (get_or new k 0) in
       raised_same (λ h. walk_blocks t.cells (sightline_to t.cells
       (family_of (rows_at t b p) (columns_at b p) e) h q.row q.col))
-      (λ h. row_blocks t p q e (height_of t q +ℤ pos h)) (get_or old (index_in b q) 0)
-      (get_or new (index_in b q) 0)
+      (λ h. row_blocks t p q e (height_of t q +ℤ pos h)) _
+      _
       (λ h. row_walk_is t p b e h [] [] observer rows cols q
       (omega (arith, inside.1, rows), omega (arith, inside.3, cols)))
       (subst Walked at (are.each q.row q.col (inside.0, inside.1) (inside.2, inside.3)
@@ -76,13 +76,13 @@ raised_over_both : (one two : ℕ → Bool) (mid new : ℕ) →
 raised_over_both one two mid new stays first second = record {
   rises = omega arith;
   most = second.most;
-  clear = λ few. open_is (one new) (two new)
+  clear = λ few. open_is _ _
       (stays mid new second.rises (first.clear (omega (arith, second.rises)))) (second.clear few);
   hidden = λ some. elim (cases_lt mid new) [
-    | inl more ↦ second_blocks (one (new - 1)) (two (new - 1)) (second.hidden more)
+    | inl more ↦ second_blocks (one (new - 1)) _ (second.hidden more)
     | inr same ↦
         let e : mid ≡ new = omega (arith, second.rises) in
-        first_blocks (one (new - 1)) (two (new - 1)) (subst (λ (k : ℕ). one (k - 1) ≡ true) e
+        first_blocks _ (two (new - 1)) (subst (λ (k : ℕ). one (k - 1) ≡ true) e
         (first.hidden (omega arith)))
   ];
 }

@@ -30,11 +30,11 @@ pub entry_of_index : (t : Terrain) (values : List (Option ℕ)) (k : ℕ) → k 
 entry_of_index t values k below =
     let p = place_of_index t.cols k in
     let some : 0 < t.cols = positive t.cols t.rows k below in
-    let row : p.row < t.rows = div_below k t.cols t.rows some (omega (arith, below)) in
-    let col : p.col < t.cols = mod_below k t.cols some in
+    let row : p.row < t.rows = div_below k _ _ some (omega (arith, below)) in
+    let col : p.col < t.cols = mod_below k _ some in
     let at : index_of t.cols p ≡ k = div-add-mod' k t.cols in (
       (row, col),
-      entry-inside t.cols t.rows values p row col ∙ ap (λ n. get_or values n None) at,
+      entry-inside _ _ values p row col ∙ ap (λ n. get_or values n None) at,
     )
   where
     positive : (a b k : ℕ) → k < a * b → 0 < a
@@ -47,8 +47,8 @@ entry_is : (t : Terrain) (observers : List Observer) (target radius : ℕ) (valu
 entry_is t observers target radius values k is below =
     let p = place_of_index t.cols k in
     let at = entry_of_index t values k below in
-    sym at.1 ∙ entry_is_value (height_at t p) (viewshed_value t observers target radius p)
-    (entry_at t.cols t.rows values p) (is.each p at.0)
+    sym at.1 ∙ entry_is_value _ _
+    _ (is.each p at.0)
 
 all_are : (t : Terrain) (observers : List Observer) (target radius : ℕ) (values : List (Option ℕ)) →
     IsViewshed t observers target radius values
@@ -75,9 +75,9 @@ pub whole_viewed : (c : Cutting) (t : Terrain) (observers : List Observer)
     (HasValue t observers target radius) values → IsViewshed t observers target radius values
 whole_viewed c t observers target radius values cuts made =
     let all =
-    map_of_size c t.cols t.rows (HasValue t observers target radius) values cuts.0 cuts.1 made in
+    map_of_size c _ _ _ values cuts.0 cuts.1 made in
     record {
       size = all.0;
-      each = λ p i. reported (height_at t p) (viewshed_value t observers target radius p)
-          (entry_at t.cols t.rows values p) (all.1 p i);
+      each = λ p i. reported _ _
+          _ (all.1 p i);
     }

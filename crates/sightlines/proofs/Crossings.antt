@@ -28,7 +28,7 @@ above_same near near' far far' v w z e same =
 
 pub height_is : (t : Terrain) (r c i : ℕ) → r < t.rows → c < t.cols → i ≡ r * t.cols + c →
     height_at t (record { row = r; col = c }) ≡ get_or t.cells i None
-height_is t r c i a b e = entry-inside t.cols t.rows t.cells (record { row = r; col = c }) a b
+height_is t r c i a b e = entry-inside _ _ t.cells (record { row = r; col = c }) a b
     ∙ ap (λ n. get_or t.cells n None) (sym e)
 
 column_step : (t : Terrain) (p q : Place) (e f : ℤ) (k : ℕ) → IsInside t p → IsInside t q → 1 ≤ k →

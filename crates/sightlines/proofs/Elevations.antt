@@ -39,7 +39,7 @@ between_small e f m r k n p q few =
 pub sight_bounded : (e f : ℤ) (n k : ℕ) → IsElevation e → IsElevation f → k ≤ n → n ≤ 4096 →
     unsigned_abs (sight e f n k) ≤ 2 ^ 62
 sight_bounded e f n k p q h l =
-    omega (arith, between_small e f (2 ^ 50) (n - k) k 4096 p q (omega arith))
+    omega (arith, between_small e f _ (n - k) k 4096 p q (omega arith))
 
 fits : (z : ℤ) → unsigned_abs z ≤ 2 ^ 62 → FitsSigned w64 z
 fits z small = omega (arith, ints)
@@ -49,7 +49,7 @@ elevation_fits e p = omega (arith, ints)
 
 pub sight_fits : (e f : ℤ) (n k : ℕ) → IsElevation e → IsElevation f → k ≤ n → n ≤ 4096 →
     FitsSigned w64 (sight e f n k)
-sight_fits e f n k p q h l = fits (sight e f n k) (sight_bounded e f n k p q h l)
+sight_fits e f n k p q h l = fits _ (sight_bounded e f n k p q h l)
 
 pub scaled_fits : (e : ℤ) (n : ℕ) → IsElevation e → n ≤ 4096 → FitsSigned w64 (e *ℤ pos n)
 scaled_fits e n p h = rw (← sight_none e e n) (sight_fits e e n 0 p p (omega arith) h)
@@ -69,7 +69,7 @@ rise_fits e f p q = omega (arith, ints)
 pub more_fits : (e f : ℤ) (n k : ℕ) → IsElevation e → IsElevation f → k < n → n ≤ 4096 →
     FitsSigned w64 (sight e f n k +ℤ (f -ℤ e))
 more_fits e f n k p q h l = let is = sight_bounded e f n (k + 1) p q (omega arith) l in
-    fits (sight e f n k +ℤ (f -ℤ e)) (rw (sight_more e f n k h) at is)
+    fits _ (rw (sight_more e f n k h) at is)
 
 -- the sight at the next step, as the walk computes it, fits in 64 bits and is exact
 pub next_elevation : (e f : ℤ) (n k bits : ℕ) → IsElevation e → IsElevation f → k < n → n ≤ 4096 →
@@ -88,7 +88,7 @@ next_elevation e f n k bits p q h l was =
 
 scaled_small : (e : ℤ) (m : ℕ) → IsElevation e → m < 4096 →
     unsigned_abs (e *ℤ pos m) ≤ 2 ^ 50 * 4095
-scaled_small e m p h = times_small e (pos m) (2 ^ 50) 4095 p (omega arith)
+scaled_small e m p h = times_small e (pos m) _ 4095 p (omega arith)
 
 leap_fits : (e f : ℤ) (m : ℕ) → IsElevation e → IsElevation f → m < 4096 →
     FitsSigned w64 ((f *ℤ pos m) -ℤ (e *ℤ pos m))
@@ -113,7 +113,7 @@ pub leapt_elevation : (e f z rise : ℤ) (n k m : ℕ) → IsElevation e → IsE
 leapt_elevation e f z rise n k m p q h few z_is rise_is =
     let here = to_z-of_z w64 (sight e f n k) (sight_fits e f n k p q (omega arith) (omega arith)) in
     let leap = to_z-of_z w64 ((f *ℤ pos m) -ℤ (e *ℤ pos m)) (leap_fits e f m p q (omega arith)) in
-    let there = sight_fits e f n (k + m) p q h (omega arith) in
+    let there = sight_fits e f n _ p q h (omega arith) in
     let on = sym (sight_on e f n k m h) in (
       rw (z_is, rise_is, here, leap, on) there,
       rw (z_is, rise_is, here, leap, on) (to_z-of_z w64 (sight e f n (k + m)) there),

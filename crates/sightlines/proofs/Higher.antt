@@ -30,14 +30,14 @@ pub columns_clear : (t : Terrain) (p q : Place) (e f g : ℤ) → f ≤ℤ g →
 columns_clear t p q e f g h clear =
     let n = abs_diff p.col q.col in
     none_from _ 1 (n - 1) (λ k low high. ground_not_above (ground t (column_crossing p q n k))
-    (sight e f n k) (sight e g n k) (sight_higher e f g n k h) (none_at _ 1 (n - 1) k clear low high))
+    _ _ (sight_higher e f g n k h) (none_at _ 1 (n - 1) k clear low high))
 
 rows_clear : (t : Terrain) (p q : Place) (e f g : ℤ) → f ≤ℤ g → row_blocks t p q e f ≡ false →
     row_blocks t p q e g ≡ false
 rows_clear t p q e f g h clear =
     let n = abs_diff p.row q.row in
     none_from _ 1 (n - 1) (λ k low high. ground_not_above (ground t (row_crossing p q n k))
-    (sight e f n k) (sight e g n k) (sight_higher e f g n k h) (none_at _ 1 (n - 1) k clear low high))
+    _ _ (sight_higher e f g n k h) (none_at _ 1 (n - 1) k clear low high))
 
 both_clear : (a b c d : Bool) → (a ≡ false → c ≡ false) → (b ≡ false → d ≡ false) →
     (not a && not b) ≡ true → (not c && not d) ≡ true
@@ -61,11 +61,11 @@ seen_higher t o q low high radius h seen =
     let g = height_of t q +ℤ pos high in
     let rises : f ≤ℤ g = omega (arith, ints, h) in
     last_of_four (is_some (height_at t p)) (is_some (height_at t q)) (is_near p q radius)
-    (is_open t o q low) (is_open t o q high)
-    (both_clear (column_blocks t p q e f) (row_blocks t p q e f) (column_blocks t p q e g)
-    (row_blocks t p q e g) (columns_clear t p q e f g rises) (rows_clear t p q e f g rises)) seen
+    _ _
+    (both_clear _ _ _
+    _ (columns_clear t p q e f g rises) (rows_clear t p q e f g rises)) seen
 
 pub hidden_lower : (t : Terrain) (o : Observer) (q : Place) (low high radius : ℕ) → low ≤ high →
     is_seen t o q high radius ≡ false → is_seen t o q low radius ≡ false
-hidden_lower t o q low high radius h hidden = false_from_ne_true (is_seen t o q low radius) (λ seen.
+hidden_lower t o q low high radius h hidden = false_from_ne_true _ (λ seen.
     absurd (let higher = seen_higher t o q low high radius h seen in cc))

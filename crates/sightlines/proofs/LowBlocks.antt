@@ -93,8 +93,8 @@ whole_between a n i j k some low high few =
     let ti = toward a.from a.to n i in
     let tj = toward a.from a.to n j in
     let tk = toward a.from a.to n k in (
-      omega (arith, div_min ti tj n some, div_le (min ti tj) tk n some is.0),
-      omega (arith, div_max ti tj n some, div_le tk (max ti tj) n some is.1),
+      omega (arith, div_min ti tj n some, div_le _ tk n some is.0),
+      omega (arith, div_max ti tj n some, div_le tk _ n some is.1),
     )
 
 -- a sight of at least z at an earlier and a later step is at least z at each step between
@@ -152,7 +152,7 @@ low_not_above (Some g) far v w z some one two =
           let sum : v + 0 ≡ v = omega arith in
           let low : (pos v *ℤ g +ℤ pos 0) ≤ℤ z =
           omega (arith, ints, rw (w_is, sum) at (one g refl)) in
-          rw (w_is, weighed_height-some (Some g) v some) (not_above z (pos v *ℤ g +ℤ pos 0) low)
+          rw (w_is, weighed_height-some (Some g) v some) (not_above z _ low)
     ]
   where
     both : (far : Option ℤ) → 0 < w → ((h : ℤ) → far ≡ Some h → (pos (v + w) *ℤ h) ≤ℤ z) →
@@ -220,9 +220,9 @@ step_passed size cells tops line s i j k block start end some low high few at_st
     let is_under = rw in_block at (is_top.above a cell h a_in inside is) in
     let lows = is_low cell (omega (arith, between, at_start.whole, at_end.whole))
     (omega (arith, between, at_start.whole, at_end.whole)) inside in
-    let one = rw at_start.sight at (low_height top n start.sight h is_under lows.0) in
-    let two = rw at_end.sight at (low_height top n end.sight h is_under lows.1) in
-    sight_between line.from_elevation line.to_elevation (pos n *ℤ h) n i j k low (omega arith)
+    let one = rw at_start.sight at (low_height top n _ h is_under lows.0) in
+    let two = rw at_end.sight at (low_height top n _ h is_under lows.1) in
+    sight_between line.from_elevation line.to_elevation _ n i j k low (omega arith)
     few one two)
 
 -- a line at or above the peak at a step and at its end is not blocked from that step on
@@ -246,7 +246,7 @@ step_above size cells tops line s peak i k start some low high at_start is_top i
     (is_top.above a cell h a_in inside is) (is_peak (a / size * s.lead + cell / size * s.side)) in
     let lower = times_le n h peak under in
     let before = rw at_start.sight at above in
-    sight_between e f (pos n *ℤ h) n i n k low (omega arith) (omega arith)
+    sight_between e f _ n i n k low (omega arith) (omega arith)
     (omega (arith, ints, lower, before)) (omega (arith, ints, lower, end)))
   where
     times_le : (n : ℕ) (h p : ℤ) → h ≤ℤ p → (pos n *ℤ h) ≤ℤ (pos n *ℤ p)
@@ -275,7 +275,7 @@ pub block_below : (size cols rows r c : ℕ) → 0 < size → r < rows → c < c
 block_below size cols rows r c some a b =
     omega (
       arith,
-      mul-add-lt (r / size) (blocks_in size cols) (c / size) (blocks_in size rows)
+      mul-add-lt _ _ _ _
           (block_before size r rows some a) (block_before size c cols some b),
     )
 

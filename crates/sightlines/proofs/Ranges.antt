@@ -19,7 +19,7 @@ pub none_at : (p : ℕ → Bool) (a n k : ℕ) → list_any p (range_with_len a 
     k < a + n → p k ≡ false
 none_at p a n k none low high =
     let at : a + (k - a) ≡ k = omega arith in
-    false_from_ne_true (p k) (λ yes.
+    false_from_ne_true _ (λ yes.
     absurd (let any = any_at p a n (k - a) (omega arith) (ap p at ∙ yes) in cc))
 
 pub none_from : (p : ℕ → Bool) (a n : ℕ) → ((k : ℕ) → a ≤ k → k < a + n → p k ≡ false) →
@@ -57,7 +57,7 @@ any_back p q n same = elim (list_any q (range_with_len 1 (n - 1))) as (λ v.
     list_any q (range_with_len 1 (n - 1)) ≡ v → list_any p (range_with_len 1 (n - 1)) ≡ v) [
       | false ↦ λ e. none_from p 1 (n - 1) (λ k low high. same k low (omega arith)
           ∙ none_at q 1 (n - 1) (n - k) e (omega arith) (omega arith))
-      | true ↦ λ e. true_from_ne_false (list_any p (range_with_len 1 (n - 1))) (λ none. let never =
+      | true ↦ λ e. true_from_ne_false _ (λ none. let never =
           none_from q 1 (n - 1) (λ k low high. let back : n - (n - k) ≡ k = omega arith in
           ap q (sym back) ∙ sym (same (n - k) (omega arith) (omega arith))
           ∙ none_at p 1 (n - 1) (n - k) none (omega arith) (omega arith)) in absurd (cc))

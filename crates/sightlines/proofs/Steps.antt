@@ -32,7 +32,7 @@ pub index_stays : (lead side : Axis) (n k : ℕ) (pace : Pace) → n ≡ abs_dif
     × (part_at side n (k + 1) ≡ part_at side n k + pace.part)
 index_stays lead side n k pace e h p below =
     let one =
-    lead_step lead n k p.lead_ahead p.lead_behind p.lead_part e (omega arith) h p.lead_gains in
+    lead_step lead n k _ _ _ e (omega arith) h p.lead_gains in
     let two = step_stays side.from side.to n k 1 p.side_ahead p.side_behind pace.part
     (omega arith) p.side_gains.sum below in
     let both = moved (whole_at lead n k) (whole_at side n k)
@@ -46,8 +46,8 @@ pub index_passes : (lead side : Axis) (n k : ℕ) (pace : Pace) → n ≡ abs_di
     + pace.beside) × (part_at side n (k + 1) + n ≡ part_at side n k + pace.part)
 index_passes lead side n k pace e h p passed =
     let one =
-    lead_step lead n k p.lead_ahead p.lead_behind p.lead_part e (omega arith) h p.lead_gains in
-    let two = step_passes side.from side.to n k 1 p.side_ahead p.side_behind pace.part (omega arith)
+    lead_step lead n k _ _ _ e (omega arith) h p.lead_gains in
+    let two = step_passes side.from side.to n k 1 p.side_ahead p.side_behind _ (omega arith)
     (omega arith) p.side_gains.sum p.side_gains.below passed in
     let both = moved (whole_at lead n k) (whole_at side n k)
     lead.stride side.stride p.lead_ahead p.lead_behind p.side_ahead p.side_behind

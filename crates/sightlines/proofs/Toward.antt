@@ -49,7 +49,7 @@ step_stays a b n k m ahead behind part h gains below =
     let t = toward a b n k in
     let e : toward a b n (k + m) + behind * n ≡ (t / n + ahead) * n + (t % n + part) =
     omega (arith, toward_more a b n k m h, div-add-mod' t n) in
-    quotient_is (toward a b n (k + m)) (t / n + ahead) n (t % n + part) behind e below
+    quotient_is (toward a b n (k + m)) _ n _ behind e below
 
 pub step_passes : (a b n k m ahead behind part : ℕ) → k + m ≤ n → 0 < n →
     m * b + behind * n ≡ m * a + ahead * n + part → part < n → n ≤ toward a b n k % n + part

@@ -10,7 +10,7 @@ offset_bounds-pieces-piece c = omega (
 
 pub bounds-pieces-piece : goal.bounds-pieces-piece
 bounds-pieces-piece c =
-    inside c.args.pieces.now c.loop-piece.piece c.args.index c.loop-piece.invariant c.requires.index
+    inside _ _ c.args.index c.loop-piece.invariant c.requires.index
 
 pub overflow_add-piece : goal.overflow_add-piece
 overflow_add-piece c = omega (
@@ -26,10 +26,10 @@ loop-piece-smaller c = omega (
 
 pub loop-piece-preserved : goal.loop-piece-preserved
 loop-piece-preserved c =
-    passed c.args.pieces.now c.loop-piece.piece c.args.index _ c.loop-piece.invariant
-    (inside c.args.pieces.now c.loop-piece.piece c.args.index c.loop-piece.invariant
+    passed _ _ _ _ c.loop-piece.invariant
+    (inside _ _ c.args.index c.loop-piece.invariant
     c.requires.index) c.loop-piece-test.true
 
 pub returns-clause-above : goal.returns-clause-above
 returns-clause-above c p at =
-    ends_above c.args.pieces.now c.loop-piece.piece c.args.index _ p c.loop-piece-test.false at
+    ends_above c.args.pieces.now c.loop-piece.piece _ _ p c.loop-piece-test.false at

@@ -9,11 +9,11 @@ returns-then-eq-clause-pushed c =
     let pieces = c.args.pieces.now.items in
     let last = c.len-count.result - 1 in
     let at : slice_get pieces last ≡ Some c.index.result.now = slice_get_read pieces
-    (length pieces) last c.index.result.now refl (omega arith) c.index.ensures in
+    _ last _ refl (omega arith) c.index.ensures in
     let same : c.index.result.now.ramp ≡ c.args.piece.ramp = search rules in
-    lengthened pieces last c.args.piece c.index.result.now (omega arith) at
-    (omega (arith, within_count pieces last c.index.result.now at)) same
+    lengthened pieces last _ _ (omega arith) at
+    (omega (arith, within_count pieces last _ at)) same
 
 pub returns-clause-pushed : goal.returns-clause-pushed
 returns-clause-pushed c =
-    rw c.in_ok-push.ensures.items (pushed c.args.pieces.now.items c.args.piece)
+    rw c.in_ok-push.ensures.items (pushed _ _)

@@ -20,11 +20,10 @@ other false false e = cc
 
 pub returns-then-is_above_at-first-clause-before : goal.returns-then-is_above_at-first-clause-before
 returns-then-is_above_at-first-clause-before c i t low high at =
-    even_between c.args.targets.now c.args.one c.args.other c.args.first c.args.from (c.args.end
-    - 1) c.requires.targets (omega arith) (omega arith)
-    (λ u at_u. c.requires.first c.args.from u (omega arith) (omega arith) at_u)
+    even_between _ c.args.one c.args.other _ _ _ c.requires.targets (omega arith) (omega arith)
+    (λ u at_u. c.requires.first _ u (omega arith) (omega arith) at_u)
     (λ u at_u. c.is_above_at.ensures u at_u
-    ∙ same c.is_above_at.result c.args.first c.if-is_above_at-first.true) i t low (omega arith) at
+    ∙ same _ _ c.if-is_above_at-first.true) i t low (omega arith) at
 
 apart : (b : Bool) → b ≡ not b → ⊥
 apart true e = cc
@@ -40,8 +39,8 @@ some c = elim (cases_lt c.args.from (c.args.end - 1)) [
       (omega arith) in
       let first = c.requires.first c.args.from _ (omega arith) (omega arith) at in
       let last = c.is_above_at.ensures _ (ap (slice_get c.args.targets.now) (sym from_is) ∙ at) in
-      absurd (apart c.args.first (sym first ∙ last
-      ∙ other c.is_above_at.result c.args.first c.if-is_above_at-first.false))
+      absurd (apart _ (sym first ∙ last
+      ∙ other _ _ c.if-is_above_at-first.false))
 ]
 
 pub loop-turned-init : goal.loop-turned-init

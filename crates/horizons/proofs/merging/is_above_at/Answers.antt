@@ -16,4 +16,4 @@ is_above-requires-clause-other c = c.requires.other c.args.index _ (omega arith)
 
 pub returns : goal.returns
 returns c t at =
-    sym (rw (get_or_from_slice_get c.args.targets.now c.args.index t _ at) at c.is_above.ensures)
+    sym (rw (get_or_from_slice_get _ _ t _ at) at c.is_above.ensures)

@@ -12,7 +12,7 @@ loop-col-preserved g c =
     let p = make_place c.args.row c.loop-col.col in
     let next : index_in b p + 1 ≡ (c.args.row - b.top) * b.cols + (c.loop-col.col + 1 - b.left) =
     omega arith in
-    let more = made_push b Has p c.loop-col.list.items c.entry.result
+    let more = made_push b Has p _ _
     (omega (arith, c.requires.row), omega (arith, c.requires.row), omega arith, omega arith)
     c.loop-col.invariant c.entry.ensures in
     rw c.in_ok-push.ensures.items (subst

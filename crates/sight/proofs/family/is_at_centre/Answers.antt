@@ -18,5 +18,5 @@ returns c =
     let one = times_short c.args.target.offset c.args.line c.requires.target.offset (omega arith) in
     let two = times_short c.args.offset c.args.target.line c.requires.offset
     (omega (arith, c.requires.target.line)) in
-    rw (one.1, two.1) (same_short (c.args.target.offset *ℤ pos c.args.line)
-    (c.args.offset *ℤ pos c.args.target.line) one.0 two.0)
+    rw (one.1, two.1) (same_short _
+    _ one.0 two.0)

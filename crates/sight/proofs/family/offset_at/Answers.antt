@@ -22,12 +22,12 @@ returns c =
     let product = back_short x (omega (arith, small)) in
     let is : c.div_euclid.result ≡ int_div_euclid x (pos t.line) =
     rw (offset, lines, line, product) at c.div_euclid.ensures in
-    let few = floor_small x t.line c.requires.target.line.0 small in
+    let few = floor_small x _ c.requires.target.line.0 small in
     let back = back_short (int_div_euclid x (pos t.line)) (omega (arith, few)) in
     rw (is, back) (record {
       passes = record {
-        low = floor_low x t.line c.requires.target.line.0;
-        high = floor_high x t.line c.requires.target.line.0;
+        low = floor_low x _ c.requires.target.line.0;
+        high = floor_high x _ c.requires.target.line.0;
       };
       small = few;
     })

@@ -13,7 +13,7 @@ use Rattle.sight.proofs.hiding.hide.Goals.{then-hides, else-hides}
 pub rank-requires-clause-each : goal.rank-requires-clause-each
 rank-requires-clause-each c i t at =
     let here = ap (λ (xs : List Target). slice_get xs i) (sym c.deref.ensures.value) ∙ at in
-    ray_is_target c.args.family c.args.extent c.args.flags.now t c.requires.family c.requires.extent
+    ray_is_target _ _ _ t c.requires.family c.requires.extent
     (c.in_ok-rays.ensures.rays.each i t here).0
 
 pub loop-number-init : goal.loop-number-init
@@ -29,21 +29,21 @@ loop-number-init c =
           ∙ at in
           let ray = (c.in_ok-rays.ensures.rays.each u t here).0 in
           omega (arith, first.line, ray.crosses.later);
-      flags = none_tested c.args.cells.now c.args.family c.args.extent c.args.height
-          c.deref-ray-items.result.now c.args.flags.now;
+      flags = none_tested _ _ _ _
+          _ _;
     }
 
 pub go_to-requires-clause-line : goal.go_to-requires-clause-line
 go_to-requires-clause-line c =
-    (ray_at c.args.family c.args.extent c.args.flags.now c.in_ok-rays.rays.items
-    c.deref-ray-items.result.now c.loop-number.number c.deref-ray-items.ensures.value
+    (ray_at _ _ _ _
+    _ _ c.deref-ray-items.ensures.value
     c.loop-number-test.true c.in_ok-rays.ensures.rays).crosses.line
 
 pub go_to-requires-clause-range : goal.go_to-requires-clause-range
 go_to-requires-clause-range c = (
   c.loop-number.invariant.some,
   c.loop-number.invariant.line c.loop-number.number _ (omega arith)
-      (slice_get-get_or c.deref-ray-items.result.now c.loop-number.number
+      (slice_get-get_or c.deref-ray-items.result.now _
       (record { offset = pos 0; line = 0 }) c.loop-number-test.true),
 )
 
@@ -53,16 +53,16 @@ go_to-requires-clause-before c =
 
 pub rise-rise-requires-clause-line : goal.rise-rise-requires-clause-line
 rise-rise-requires-clause-line c =
-    (ray_at c.args.family c.args.extent c.args.flags.now c.in_ok-rays.rays.items
-    c.deref-ray-items.result.now c.loop-number.number c.deref-ray-items.ensures.value
+    (ray_at _ _ _ _
+    _ _ c.deref-ray-items.ensures.value
     c.loop-number-test.true c.in_ok-rays.ensures.rays).crosses.line
 
 pub rise-rise-requires-clause-target : goal.rise-rise-requires-clause-target
 rise-rise-requires-clause-target c =
-    let ray = ray_at c.args.family c.args.extent c.args.flags.now c.in_ok-rays.rays.items
-    c.deref-ray-items.result.now c.loop-number.number c.deref-ray-items.ensures.value
+    let ray = ray_at _ _ _ _
+    _ _ c.deref-ray-items.ensures.value
     c.loop-number-test.true c.in_ok-rays.ensures.rays in
-    ray_is_target c.args.family c.args.extent c.args.flags.now _ c.requires.family c.requires.extent
+    ray_is_target _ _ _ _ c.requires.family c.requires.extent
     ray
 
 pub hides-requires : goal.hides-requires
@@ -70,28 +70,28 @@ hides-requires c =
     let lookup = rw c.deref-in-loop-number.ensures.value at c.in_ok-go_to.ensures in
     let ranked =
     rw (c.deref.ensures.value, sym c.deref-ray-items.ensures.value) at c.in_ok-ranked.ensures in
-    let at = rank_at c.deref-ray-items.result.now c.in_ok-ranked.ranked.targets.items
-    c.in_ok-ranked.ranked.ranks.items c.loop-number.number c.index.result.now
+    let at = rank_at _ _
+    _ _ _
     c.loop-number-test.true ranked c.index.ensures in
-    let ray = ray_at c.args.family c.args.extent c.args.flags.now c.in_ok-rays.rays.items
-    c.deref-ray-items.result.now c.loop-number.number c.deref-ray-items.ensures.value
+    let ray = ray_at _ _ _ _
+    _ _ c.deref-ray-items.ensures.value
     c.loop-number-test.true c.in_ok-rays.ensures.rays in
     record {
       rank = omega (arith, lookup.hides.over.whole, slice_get_within _ c.index.result.now _ at);
       cursor = lookup.cursor;
-      target = ray_is_target c.args.family c.args.extent c.args.flags.now _ c.requires.family
+      target = ray_is_target _ _ _ _ c.requires.family
           c.requires.extent ray;
       at = λ r at_r. lookup.hides.over.each c.index.result.now _ r at at_r;
     }
 
 pub clear_flag-requires-clause-extent : goal.clear_flag-requires-clause-extent
-clear_flag-requires-clause-extent c = extent_kept c.args.family c.args.extent c.args.flags.now
-    c.loop-number.flags c.loop-number.invariant.flags.size c.requires.extent
+clear_flag-requires-clause-extent c = extent_kept _ _ _
+    _ c.loop-number.invariant.flags.size c.requires.extent
 
 pub clear_flag-requires-clause-ray : goal.clear_flag-requires-clause-ray
 clear_flag-requires-clause-ray c =
-    ray_at c.args.family c.args.extent c.args.flags.now c.in_ok-rays.rays.items
-    c.deref-ray-items.result.now c.loop-number.number c.deref-ray-items.ensures.value
+    ray_at _ _ _ _
+    _ _ c.deref-ray-items.ensures.value
     c.loop-number-test.true c.in_ok-rays.ensures.rays
 
 pub loop-number-preserved : goal.loop-number-preserved
@@ -115,7 +115,7 @@ loop-number-preserved c =
     rw c.deref-in-loop-number.ensures.value at c.in_ok-go_to.ensures in
     let ranked =
     rw (c.deref.ensures.value, sym c.deref-ray-items.ensures.value) at c.in_ok-ranked.ensures in
-    let at_rank = rank_at rays targets c.in_ok-ranked.ranked.ranks.items n c.index.result.now
+    let at_rank = rank_at rays targets _ n _
     c.loop-number-test.true ranked c.index.ensures in
     let answer = rw (to_z-of_z w64 c.rise-rise.result (search rules)) at c.hides.ensures.answer in
     let reported : c.hides.result
@@ -127,7 +127,7 @@ loop-number-preserved c =
     (c.rise-rise.ensures.value ray.cell ray.stands) in
     let line : c.hides.new.self.line ≡ t.line = c.hides.ensures.line ∙ lookup.line in
     record {
-      looks = looked_on cells f targets t.line c.go_to.new.self c.hides.new.self lookup
+      looks = looked_on cells f targets _ _ _ lookup
           c.hides.ensures.line c.hides.ensures.highest c.hides.ensures.cursor;
       some = omega (arith, line, ray.crosses.later);
       line = λ u s after at_s. omega (arith, line, are.sorted n u t s (omega arith) at_t at_s);
@@ -135,14 +135,14 @@ loop-number-preserved c =
         | then-hides w' ↦
             subst (λ (ms : List Bool). AreHiddenBelow cells f w height rays (n + 1) old ms)
             (sym (w'.flags-is ∙ w'.clear_flag.ensures ray.cell ray.stands))
-            (blocked_tested cells f w height rays n old flags t ray.cell c.requires.apart
+            (blocked_tested cells f w height rays n old flags t _ c.requires.apart
             (extent_kept f w old flags c.loop-number.invariant.flags.size c.requires.extent)
             at_t ray.stands ray.within ray.crosses (sym reported
             ∙ w'.if-hides.true) c.loop-number.invariant.flags)
         | else-hides w' ↦
             subst (λ (ms : List Bool). AreHiddenBelow cells f w height rays (n + 1) old ms)
             (sym w'.flags-is)
-            (open_tested cells f w height rays n old flags t ray.cell at_t ray.stands (sym reported
+            (open_tested cells f w height rays n old flags t _ at_t ray.stands (sym reported
             ∙ w'.if-hides.false) c.loop-number.invariant.flags)
       ];
     }
@@ -153,5 +153,5 @@ returns c =
     let are : AreRays c.args.family c.args.extent c.args.flags.now 4097 0 rays =
     rw c.deref-ray-items.ensures.value c.in_ok-rays.ensures.rays in
     let end : c.loop-number.number ≡ length rays = omega arith in
-    all_tested c.args.cells.now c.args.family c.args.extent c.args.height rays c.args.flags.now
-    c.loop-number.flags are (rw end at c.loop-number.invariant.flags)
+    all_tested _ _ _ _ rays _
+    _ are (rw end at c.loop-number.invariant.flags)

@@ -23,7 +23,7 @@ offset_at-high-requires-clause-target c =
 
 pub constant_ramp-ground-requires-clause-height : goal.constant_ramp-ground-requires-clause-height
 constant_ramp-ground-requires-clause-height c =
-    kept c.in-Some.top (c.in-Some.ensures.height c.in-Some.top refl)
+    kept _ (c.in-Some.ensures.height c.in-Some.top refl)
 
 pub is_never_above-requires-clause-one : goal.is_never_above-requires-clause-one
 is_never_above-requires-clause-one c i t low high at =
@@ -40,14 +40,14 @@ returns-in_default c = (
       let below : k ≤ last = omega arith in
       let low_back = back_short low_o (omega (arith, c.offset_at-low.ensures.small)) in
       let high_back = back_short high_o (omega (arith, c.offset_at-high.ensures.small)) in
-      let ray = passes_within c.args.targets.now (record { offset = pos 0; line = 0 })
-      c.line_of_low.result c.line_of_low-2.result k c.args.from c.args.piece.end i low_o high_o t
+      let ray = passes_within _ (record { offset = pos 0; line = 0 })
+      _ _ k _ _ i low_o high_o t
       c.requires.targets c.requires.range.1 c.offset_at-low.ensures.passes
-      (up_from _ _ c.args.line last k c.line_of_low.ensures from below)
-      c.offset_at-high.ensures.passes (up_to _ _ c.args.line last k c.line_of_low-2.ensures from below)
+      (up_from _ _ _ last k c.line_of_low.ensures from below)
+      c.offset_at-high.ensures.passes (up_to _ _ _ last k c.line_of_low-2.ensures from below)
       low high at in
-      let near : IsTopNear cells f k low_o high_o None = none_near cells f c.args.tops.now
-      c.args.blocks c.args.line last k low_o high_o None are c.in_ok-last.ensures.2 from below
+      let near : IsTopNear cells f k low_o high_o None = none_near cells f _
+      _ _ last k low_o high_o None are c.in_ok-last.ensures.2 from below
       (rw (low_back, high_back) at c.in_default.ensures.top) in
       absurd (hidden_by_top cells f k y low_o high_o rise None t c.requires.family stands later ray near
       blocks),
@@ -64,15 +64,15 @@ returns-then-is_never_above c = (
       let below : k ≤ last = omega arith in
       let low_back = back_short low_o (omega (arith, c.offset_at-low.ensures.small)) in
       let high_back = back_short high_o (omega (arith, c.offset_at-high.ensures.small)) in
-      let ray = passes_within c.args.targets.now (record { offset = pos 0; line = 0 })
-      c.line_of_low.result c.line_of_low-2.result k c.args.from c.args.piece.end i low_o high_o t
+      let ray = passes_within _ (record { offset = pos 0; line = 0 })
+      _ _ k _ _ i low_o high_o t
       c.requires.targets c.requires.range.1 c.offset_at-low.ensures.passes
-      (up_from _ _ c.args.line last k c.line_of_low.ensures from below)
-      c.offset_at-high.ensures.passes (up_to _ _ c.args.line last k c.line_of_low-2.ensures from below)
+      (up_from _ _ _ last k c.line_of_low.ensures from below)
+      c.offset_at-high.ensures.passes (up_to _ _ _ last k c.line_of_low-2.ensures from below)
       low high at in
       let top = c.in-Some.top in
-      let near : IsTopNear cells f k low_o high_o (Some top) = none_near cells f c.args.tops.now
-      c.args.blocks c.args.line last k low_o high_o (Some top) are c.in_ok-last.ensures.2 from below
+      let near : IsTopNear cells f k low_o high_o (Some top) = none_near cells f _
+      _ _ last k low_o high_o (Some top) are c.in_ok-last.ensures.2 from below
       (rw (low_back, high_back) at c.in-Some.ensures.top) in
       let hides = hidden_by_top cells f k y low_o high_o rise (Some top) t c.requires.family stands later
       ray near blocks in
@@ -86,7 +86,7 @@ returns-then-is_never_above c = (
       ] in
       let ground : c.constant_ramp-ground.result ≡ constant_ramp f n top =
       rw top_back at c.constant_ramp-ground.ensures.ramp in
-      hides_if_not_above c.constant_ramp-ground.result c.args.piece.ramp t rise
+      hides_if_not_above _ _ t rise
       (c.constant_ramp-ground.ensures.at t is_t) (c.requires.ramp i t low high at)
       (OnTrue_at c.if-is_never_above.true c.is_never_above.ensures i t low high at)
       (ap (λ r. ramp_hides r t rise) ground

@@ -14,6 +14,6 @@ loop-past-preserved-then-is_before c =
     let at = slice_get-get_or targets middle (record { offset = pos 0; line = 0 }) (omega arith) in
     rw back (record {
       range = (omega arith, omega arith, omega arith);
-      before = before_to targets c.args.line middle c.args.offset _ c.requires.targets at
+      before = before_to targets _ middle _ _ c.requires.targets at
           (reported.0 c.if-is_before.true);
     })

@@ -15,7 +15,7 @@ loop-leap-preserved c =
     rw back (record {
       range = (omega arith, omega arith);
       leap = (omega arith, omega arith);
-      before = before_to targets c.args.line next c.args.offset _ c.requires.targets at
+      before = before_to targets _ next _ _ c.requires.targets at
           (reported.0 c.if-not-is_before.false);
     })
 

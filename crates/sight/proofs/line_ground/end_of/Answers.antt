@@ -14,7 +14,7 @@ returns-then-span-clause-over c i u t low high at_u at =
     let same : t ≡ u = same_Some t u (sym at ∙ ap (slice_get c.args.targets.now) i_is ∙ at_u) in
     let P : Target → Type 0 =
     λ v. PassesAmong c.args.line c.args.span.offset c.args.span.last v in (
-      subst P (sym same) (passes_before c.args.line c.args.span.offset c.args.span.last u
+      subst P (sym same) (passes_before _ _ _ u
           c.requires.last.0 (c.requires.passes u at_u)),
       λ yes. same,
     )
@@ -28,8 +28,8 @@ end_before-requires-clause-before c =
     (omega (arith, c.requires.range)) in
     let back = back_short last (omega (arith, c.requires.last)) in
     let next = back_short (last +ℤ pos 1) (omega (arith, ints, c.requires.last)) in
-    rw (back, next) (before_to targets c.args.line from (last +ℤ pos 1) _ c.requires.targets at
-    (passes_before c.args.line c.args.span.offset last _ c.requires.last.0
+    rw (back, next) (before_to targets _ from _ _ c.requires.targets at
+    (passes_before _ _ last _ c.requires.last.0
     (c.requires.passes _ at)).high)
 
 pub returns-clause-over : goal.returns-clause-over
@@ -41,7 +41,7 @@ returns-clause-over c i u t low high at_u at =
     let next = back_short (last +ℤ pos 1) (omega (arith, ints, c.requires.last)) in
     let before : AreBefore targets c.args.line (last +ℤ pos 1) c.end_before.result =
     rw (back, next) at c.end_before.ensures.before in (
-      passes_onward targets c.args.line c.args.from c.end_before.result i offset last u t
+      passes_onward targets _ _ _ i offset last u t
           c.requires.targets at_u (c.requires.passes u at_u) before low high at,
       λ yes. let no = c.if-span.false in absurd (cc),
     )

@@ -27,8 +27,8 @@ returns-in_default c i t low high at y rise stands later blocks =
     let high_back =
     back_short c.offset_at-high.result (omega (arith, c.offset_at-high.ensures.small)) in
     let ray =
-    passes_between c.args.targets.now (record { offset = pos 0; line = 0 }) c.args.line c.args.from
-    c.args.piece.end i c.offset_at-low.result c.offset_at-high.result t c.requires.targets
+    passes_between _ (record { offset = pos 0; line = 0 }) _ _
+    _ i _ _ t c.requires.targets
     c.requires.range.1 c.offset_at-low.ensures.passes c.offset_at-high.ensures.passes low high at in
     let none : IsTopNear c.args.cells.now c.args.family c.args.line c.offset_at-low.result
     c.offset_at-high.result None = rw (low_back, high_back) at c.in_default.ensures.top in
@@ -38,7 +38,7 @@ returns-in_default c i t low high at y rise stands later blocks =
 
 pub constant_ramp-requires-clause-height : goal.constant_ramp-requires-clause-height
 constant_ramp-requires-clause-height c =
-    kept c.in-Some.top (c.in-Some.ensures.height c.in-Some.top refl)
+    kept _ (c.in-Some.ensures.height c.in-Some.top refl)
 
 pub is_never_above-requires-clause-one : goal.is_never_above-requires-clause-one
 is_never_above-requires-clause-one c i t low high at =
@@ -63,14 +63,14 @@ returns c =
     OnTrue_from c.is_never_above.result (IsHiddenOn c.args.cells.now f targets k ramp c.args.from
     c.args.piece.end) (λ yes i t low high at y rise stands later blocks.
     let ray =
-    passes_between c.args.targets.now (record { offset = pos 0; line = 0 }) c.args.line c.args.from
-    c.args.piece.end i c.offset_at-low.result c.offset_at-high.result t c.requires.targets
+    passes_between _ (record { offset = pos 0; line = 0 }) _ _
+    _ i _ _ t c.requires.targets
     c.requires.range.1 c.offset_at-low.ensures.passes c.offset_at-high.ensures.passes low high at in
     let hides : ramp_hides c.constant_ramp.result t rise ≡ true =
     ap (λ r. ramp_hides r t rise) constant
     ∙ top_blocks c.args.cells.now f k y c.offset_at-low.result c.offset_at-high.result ray.0 rise
     top t c.requires.family stands later ray.1 ray.2 ray.3 near blocks in
-    hides_if_not_above c.constant_ramp.result ramp t rise
+    hides_if_not_above _ ramp t rise
     (c.constant_ramp.ensures.at t (c.requires.targets.each i t at))
     (c.requires.ramp i t low high at)
     (OnTrue_at yes c.is_never_above.ensures i t low high at) hides)

@@ -29,8 +29,8 @@ returns-then-span-end_offset c =
     let past : (pos f.side.cells -ℤ pos f.side.at) ≤ℤ span.offset = omega
     (arith, ints, (rw (end_back, back) at c.if-span-end_offset.true), c.end_offset.ensures.value) in
     on_ok_weaker c.push.result
-    (high_raised c.args.cells.now f targets c.args.line from c.args.piece.end c.args.highest.now
-    span.offset u c.passed_ramp.result c.loop-from.raised c.push.new.self c.requires.line.0
+    (high_raised _ f targets _ from _ _
+    _ u _ _ c.push.new.self c.requires.line.0
     c.requires.family c.requires.targets at_u c.span-span.ensures.passes past
     c.loop-from.invariant.target_count c.loop-from-test.true c.passed_ramp.ensures.at
     c.passed_ramp.ensures.clear c.loop-from.invariant.raises)
@@ -48,8 +48,8 @@ push_greater-requires-clause-one c i t low high at =
     let at_u = slice_get-get_or c.args.targets.now c.loop-from.from
     (record { offset = pos 0; line = 0 }) (omega arith) in
     let shows =
-    shown_over c.args.cells.now c.args.family c.args.targets.now c.args.line c.loop-from.from
-    c.end_of-end.result c.span-span.result _ c.requires.targets at_u c.span-span.ensures.shows
+    shown_over _ _ _ _ c.loop-from.from
+    _ c.span-span.result _ c.requires.targets at_u c.span-span.ensures.shows
     (λ i t low high. c.end_of-end.ensures.over i _ t low high at_u)
     i t (omega (arith, c.loop-from.invariant.target_count)) high at in
     shows.at
@@ -67,12 +67,12 @@ loop-from-preserved c =
     let range = c.end_of-end.ensures.range in
     let at_u = slice_get-get_or c.args.targets.now l.from (record { offset = pos 0; line = 0 })
     (omega arith) in
-    let shows = shown_over c.args.cells.now c.args.family c.args.targets.now c.args.line l.from
+    let shows = shown_over _ _ _ _ l.from
     c.end_of-end.result c.span-span.result _ c.requires.targets at_u c.span-span.ensures.shows
     (λ i t low high. c.end_of-end.ensures.over i _ t low high at_u) in
-    let raised = greater_raised c.args.cells.now c.args.family c.args.targets.now c.args.line
-    l.from c.end_of-end.result c.args.highest.now c.span-span.result.ramp c.args.piece.ramp l.raised
-    c.push_greater.new.into l.invariant.target_count range.0
+    let raised = greater_raised _ _ _ _
+    _ _ _ _ _ _
+    _ l.invariant.target_count range.0
     c.requires.highest c.requires.clear (λ i low high. c.requires.piece i (omega
     (arith, l.invariant.within)) (omega (arith, range))) c.span-span.ensures.clear
     c.in_ok-push_greater.ensures l.invariant.raises shows in

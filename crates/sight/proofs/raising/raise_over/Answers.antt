@@ -14,7 +14,7 @@ use Rattle.sight.proofs.raising.raise_over.Goals as goal
 pub rank-requires-clause-each : goal.rank-requires-clause-each
 rank-requires-clause-each c i t at =
     let here = ap (λ (xs : List Target). slice_get xs i) (sym c.deref.ensures.value) ∙ at in
-    ray_is_target c.args.family c.args.extent c.args.flags.now t c.requires.family c.requires.extent
+    ray_is_target _ _ _ t c.requires.family c.requires.extent
     (c.in_ok-rays.ensures.rays.each i t here).0
 
 pub loop-number-init : goal.loop-number-init
@@ -30,21 +30,21 @@ loop-number-init c =
           ∙ at in
           let ray = (c.in_ok-rays.ensures.rays.each u t here).0 in
           omega (arith, first.line, ray.crosses.later);
-      targets = none_raised c.args.cells.now c.args.family c.args.extent
-          c.deref-ray-items.result.now c.args.targets.now c.requires.targets;
+      targets = none_raised _ _ _
+          _ _ c.requires.targets;
     }
 
 pub go_to-requires-clause-line : goal.go_to-requires-clause-line
 go_to-requires-clause-line c =
-    (ray_at c.args.family c.args.extent c.args.flags.now c.in_ok-rays.rays.items
-    c.deref-ray-items.result.now c.loop-number.number c.deref-ray-items.ensures.value
+    (ray_at _ _ _ _
+    _ _ c.deref-ray-items.ensures.value
     c.loop-number-test.true c.in_ok-rays.ensures.rays).crosses.line
 
 pub go_to-requires-clause-range : goal.go_to-requires-clause-range
 go_to-requires-clause-range c = (
   c.loop-number.invariant.some,
   c.loop-number.invariant.line c.loop-number.number _ (omega arith)
-      (slice_get-get_or c.deref-ray-items.result.now c.loop-number.number
+      (slice_get-get_or c.deref-ray-items.result.now _
       (record { offset = pos 0; line = 0 }) c.loop-number-test.true),
 )
 
@@ -53,61 +53,61 @@ go_to-requires-clause-before c =
     rw c.deref-in-loop-number.ensures.value c.loop-number.invariant.looks
 
 pub flag_index-index-requires-clause-ray : goal.flag_index-index-requires-clause-ray
-flag_index-index-requires-clause-ray c = ray_at c.args.family c.args.extent c.args.flags.now c.in_ok-rays.rays.items
-    c.deref-ray-items.result.now c.loop-number.number c.deref-ray-items.ensures.value
+flag_index-index-requires-clause-ray c = ray_at _ _ _ _
+    _ _ c.deref-ray-items.ensures.value
     c.loop-number-test.true c.in_ok-rays.ensures.rays
 
 pub offset_bounds-targets-index : goal.offset_bounds-targets-index
 offset_bounds-targets-index c =
-    let at = ray_index c.args.family c.args.extent c.args.flags.now _
-    c.flag_index-index.result c.requires.family c.requires.extent
-    (ray_at c.args.family c.args.extent c.args.flags.now c.in_ok-rays.rays.items
-    c.deref-ray-items.result.now c.loop-number.number c.deref-ray-items.ensures.value
+    let at = ray_index _ _ _ _
+    _ c.requires.family c.requires.extent
+    (ray_at _ _ _ _
+    _ _ c.deref-ray-items.ensures.value
     c.loop-number-test.true c.in_ok-rays.ensures.rays)
     c.flag_index-index.ensures in
     omega (arith, at)
 
 pub bounds-targets-index : goal.bounds-targets-index
 bounds-targets-index c =
-    let at = ray_index c.args.family c.args.extent c.args.flags.now _
-    c.flag_index-index.result c.requires.family c.requires.extent
-    (ray_at c.args.family c.args.extent c.args.flags.now c.in_ok-rays.rays.items
-    c.deref-ray-items.result.now c.loop-number.number c.deref-ray-items.ensures.value
+    let at = ray_index _ _ _ _
+    _ c.requires.family c.requires.extent
+    (ray_at _ _ _ _
+    _ _ c.deref-ray-items.ensures.value
     c.loop-number-test.true c.in_ok-rays.ensures.rays)
     c.flag_index-index.ensures in
     omega (arith, at, c.requires.size, c.loop-number.invariant.targets.size)
 
 pub offset_bounds-targets-index-in-loop-number : goal.offset_bounds-targets-index-in-loop-number
 offset_bounds-targets-index-in-loop-number c =
-    let at = ray_index c.args.family c.args.extent c.args.flags.now _
-    c.flag_index-index.result c.requires.family c.requires.extent
-    (ray_at c.args.family c.args.extent c.args.flags.now c.in_ok-rays.rays.items
-    c.deref-ray-items.result.now c.loop-number.number c.deref-ray-items.ensures.value
+    let at = ray_index _ _ _ _
+    _ c.requires.family c.requires.extent
+    (ray_at _ _ _ _
+    _ _ c.deref-ray-items.ensures.value
     c.loop-number-test.true c.in_ok-rays.ensures.rays)
     c.flag_index-index.ensures in
     omega (arith, at)
 
 pub bounds-targets-index-in-loop-number : goal.bounds-targets-index-in-loop-number
 bounds-targets-index-in-loop-number c =
-    let at = ray_index c.args.family c.args.extent c.args.flags.now _
-    c.flag_index-index.result c.requires.family c.requires.extent
-    (ray_at c.args.family c.args.extent c.args.flags.now c.in_ok-rays.rays.items
-    c.deref-ray-items.result.now c.loop-number.number c.deref-ray-items.ensures.value
+    let at = ray_index _ _ _ _
+    _ c.requires.family c.requires.extent
+    (ray_at _ _ _ _
+    _ _ c.deref-ray-items.ensures.value
     c.loop-number-test.true c.in_ok-rays.ensures.rays)
     c.flag_index-index.ensures in
     omega (arith, at, c.requires.size, c.loop-number.invariant.targets.size)
 
 pub raise-requires-clause-line : goal.raise-requires-clause-line
 raise-requires-clause-line c =
-    (ray_at c.args.family c.args.extent c.args.flags.now c.in_ok-rays.rays.items
-    c.deref-ray-items.result.now c.loop-number.number c.deref-ray-items.ensures.value
+    (ray_at _ _ _ _
+    _ _ c.deref-ray-items.ensures.value
     c.loop-number-test.true c.in_ok-rays.ensures.rays).crosses.line
 
 pub raise-requires-clause-target : goal.raise-requires-clause-target
-raise-requires-clause-target c = ray_is_target c.args.family c.args.extent c.args.flags.now _
+raise-requires-clause-target c = ray_is_target _ _ _ _
     c.requires.family c.requires.extent
-    (ray_at c.args.family c.args.extent c.args.flags.now c.in_ok-rays.rays.items
-    c.deref-ray-items.result.now c.loop-number.number c.deref-ray-items.ensures.value
+    (ray_at _ _ _ _
+    _ _ c.deref-ray-items.ensures.value
     c.loop-number-test.true c.in_ok-rays.ensures.rays)
 
 pub raise-requires-clause-rank : goal.raise-requires-clause-rank
@@ -115,8 +115,8 @@ raise-requires-clause-rank c =
     let lookup = rw c.deref-in-loop-number.ensures.value at c.in_ok-go_to.ensures in
     let ranked =
     rw (c.deref.ensures.value, sym c.deref-ray-items.ensures.value) at c.in_ok-ranked.ensures in
-    let at = rank_at c.deref-ray-items.result.now c.in_ok-ranked.ranked.targets.items
-    c.in_ok-ranked.ranked.ranks.items c.loop-number.number c.index.result.now
+    let at = rank_at _ _
+    _ _ _
     c.loop-number-test.true ranked c.index.ensures in
     omega (arith, lookup.hides.over.whole, slice_get_within _ c.index.result.now _ at)
 
@@ -125,8 +125,8 @@ raise-requires-clause-at c r at_r =
     let lookup = rw c.deref-in-loop-number.ensures.value at c.in_ok-go_to.ensures in
     let ranked =
     rw (c.deref.ensures.value, sym c.deref-ray-items.ensures.value) at c.in_ok-ranked.ensures in
-    let at = rank_at c.deref-ray-items.result.now c.in_ok-ranked.ranked.targets.items
-    c.in_ok-ranked.ranked.ranks.items c.loop-number.number c.index.result.now
+    let at = rank_at _ _
+    _ _ _
     c.loop-number-test.true ranked c.index.ensures in
     lookup.hides.over.each c.index.result.now _ r at at_r
 
@@ -149,12 +149,12 @@ loop-number-preserved c =
     rw c.deref-in-loop-number.ensures.value at c.in_ok-go_to.ensures in
     let ranked =
     rw (c.deref.ensures.value, sym c.deref-ray-items.ensures.value) at c.in_ok-ranked.ensures in
-    let at_rank = rank_at rays targets c.in_ok-ranked.ranked.ranks.items n c.index.result.now
+    let at_rank = rank_at rays targets _ n _
     c.loop-number-test.true ranked c.index.ensures in
-    let within = ray_index c.args.family c.args.extent c.args.flags.now _
-    c.flag_index-index.result c.requires.family c.requires.extent
-    (ray_at c.args.family c.args.extent c.args.flags.now c.in_ok-rays.rays.items
-    c.deref-ray-items.result.now c.loop-number.number c.deref-ray-items.ensures.value
+    let within = ray_index _ _ _ _
+    _ c.requires.family c.requires.extent
+    (ray_at _ _ _ _
+    _ _ c.deref-ray-items.ensures.value
     c.loop-number-test.true c.in_ok-rays.ensures.rays)
     c.flag_index-index.ensures in
     let index : c.flag_index-index.result ≡ flag_index w (lead_of f t.line) ray.cell =
@@ -162,20 +162,20 @@ loop-number-preserved c =
     let raised : IsRaised (lines_block_at cells f t.line ray.cell)
     (get_or c.loop-number.targets c.flag_index-index.result 0) c.raise.result =
     raised_by (λ h. hides c.go_to.new.self.sweep.highest c.index.result.now t
-    (rise_at cells f h t.line ray.cell)) (lines_block_at cells f t.line ray.cell)
-    (get_or c.loop-number.targets c.flag_index-index.result 0) c.raise.result
+    (rise_at cells f h t.line ray.cell)) _
+    _ _
     (λ h few. lookup.hides.hides c.index.result.now t ray.cell (rise_at cells f h t.line ray.cell)
     at_rank ray.stands (omega arith) (rise_small cells f h t.line ray.cell c.requires.heights
     c.requires.family few)) (c.raise.ensures.raised ray.cell ray.stands) in
     let line : c.raise.new.self.line ≡ t.line = c.raise.ensures.line ∙ lookup.line in
     record {
-      looks = looked_on cells f targets t.line c.go_to.new.self c.raise.new.self lookup
+      looks = looked_on cells f targets _ _ _ lookup
           c.raise.ensures.line c.raise.ensures.highest c.raise.ensures.cursor;
       some = omega (arith, line, ray.crosses.later);
       line = λ u s after at_s. omega (arith, line, are.sorted n u t s (omega arith) at_t at_s);
       targets = subst (λ (i : ℕ). AreRaisedBelow cells f w rays (n + 1) old
           (set c.loop-number.targets i c.raise.result)) (sym index)
-          (ray_raised cells f w rays n old c.loop-number.targets t ray.cell c.raise.result
+          (ray_raised cells f w rays n old _ t _ _
           c.requires.apart (omega (
             arith,
             within,
@@ -194,5 +194,5 @@ returns c =
     let are : AreRays c.args.family c.args.extent c.args.flags.now 4097 0 rays =
     rw c.deref-ray-items.ensures.value c.in_ok-rays.ensures.rays in
     let end : c.loop-number.number ≡ length rays = omega arith in
-    all_raised c.args.cells.now c.args.family c.args.extent rays c.args.flags.now
-    c.args.targets.now c.loop-number.targets are (rw end at c.loop-number.invariant.targets)
+    all_raised _ _ _ rays _
+    _ _ are (rw end at c.loop-number.invariant.targets)

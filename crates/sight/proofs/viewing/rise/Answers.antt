@@ -10,9 +10,9 @@ returns-in-Some-clause-refusals g c =
     let os = c.args.observers.now in
     let fault = observers_fault t os 0 c.args.radius in
     let reported : fault ≡ Some c.in-Some.fault = rw c.first_fault.ensures at c.in-Some.is in
-    refuses fault c.in-Some.fault c.args.workers (λ job. not_jobs job t os 0 c.args.radius) reported
+    refuses fault _ _ (λ job. not_jobs job t os 0 c.args.radius) reported
 
 pub returns-clause-values : goal.returns-clause-values
 returns-clause-values g c =
-    whole_rise c.args.tiling.now c.args.grid.now.terrain c.args.observers.now c.args.radius
-    c.in_ok-values.values.items c.requires.given c.in_ok-values.ensures.made
+    whole_rise _ _ _ _
+    _ c.requires.given c.in_ok-values.ensures.made

@@ -10,10 +10,10 @@ returns-in-Some-clause-refusals g c =
     let os = c.args.observers.now in
     let fault = observers_fault t os c.args.target_height c.args.radius in
     let reported : fault ≡ Some c.in-Some.fault = rw c.first_fault.ensures at c.in-Some.is in
-    refuses fault c.in-Some.fault c.args.workers (λ job.
+    refuses fault _ _ (λ job.
     not_jobs job t os c.args.target_height c.args.radius) reported
 
 pub returns-clause-values : goal.returns-clause-values
 returns-clause-values g c =
-    whole_viewed c.args.tiling.now c.args.grid.now.terrain c.args.observers.now c.args.target_height
-    c.args.radius c.in_ok-values.values.items c.requires.given c.in_ok-values.ensures.made
+    whole_viewed _ _ _ _
+    _ _ c.requires.given c.in_ok-values.ensures.made

@@ -34,9 +34,9 @@ blocker_on-requires-2-clause-far_tops c =
 pub blocker_on-requires-clause-heights :
     goal.blocker_on-requires-clause-heights
 blocker_on-requires-clause-heights c = rw c.cells-cells.ensures.value
-    (are_heights c.args.grid.now.terrain c.cells-cells.ensures.lawful.terrain)
+    (are_heights _ c.cells-cells.ensures.lawful.terrain)
 
 pub blocker_on-requires-2-clause-heights :
     goal.blocker_on-requires-2-clause-heights
 blocker_on-requires-2-clause-heights c = rw c.cells-cells.ensures.value
-    (are_heights c.args.grid.now.terrain c.cells-cells.ensures.lawful.terrain)
+    (are_heights _ c.cells-cells.ensures.lawful.terrain)

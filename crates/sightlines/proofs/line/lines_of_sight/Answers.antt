@@ -13,14 +13,14 @@ pub elevation-eye_elevation-requires-clause-height :
     goal.elevation-eye_elevation-requires-clause-height
 elevation-eye_elevation-requires-clause-height c =
     let ground = c.in_ok-eye_ground.eye_ground in
-    kept ground (height_in c.args.grid.now.terrain (place_of c.args.observer.now)
+    kept ground (height_in _ (place_of c.args.observer.now)
     ground c.cols-stride.ensures.lawful.terrain (sym c.at.ensures ∙ c.in_ok-eye_ground.was))
 
 pub elevation-target_elevation-requires-clause-height :
     goal.elevation-target_elevation-requires-clause-height
 elevation-target_elevation-requires-clause-height c =
     let ground = c.in_ok-target_ground.target_ground in
-    kept ground (height_in c.args.grid.now.terrain c.args.target ground
+    kept ground (height_in _ c.args.target ground
     c.cols-stride.ensures.lawful.terrain (sym c.at-2.ensures ∙ c.in_ok-target_ground.was))
 
 pub returns : goal.returns

@@ -27,9 +27,9 @@ none_above cells tops line s peak k here some within at are is_peak clear =
 pub returns-then-is_clear-clause-answer : goal.returns-then-is_clear-clause-answer
 returns-then-is_clear-clause-answer c =
     let tops = c.args.tops.now in
-    let peak_is = to_z-of_z w64 tops.peak (height_fits tops.peak c.requires.peak.0) in
+    let peak_is = to_z-of_z w64 tops.peak (height_fits _ c.requires.peak.0) in
     sym
-    (none_above c.args.cells.now tops.far.items c.args.line c.args.far tops.peak 1 c.at-begin.result
+    (none_above _ _ _ _ _ 1 _
     (omega arith) (omega arith) c.at-begin.ensures c.requires.far_tops c.requires.peak.1
     (rw peak_is at (OnTrue_at c.if-is_clear.true c.is_clear.ensures)))
 
@@ -51,9 +51,9 @@ returns-then-is_clear-2-clause-answer c =
     let p =
     step_blocks c.args.cells.now line.lead line.side line.from_elevation line.to_elevation n in
     let all : n - 1 ≡ (first - 1) + (n - first) = omega arith in
-    let peak_is = to_z-of_z w64 tops.peak (height_fits tops.peak c.requires.peak.0) in
+    let peak_is = to_z-of_z w64 tops.peak (height_fits _ c.requires.peak.0) in
     let none =
-    none_above c.args.cells.now tops.far.items line c.args.far tops.peak first c.loop-first.start
+    none_above _ _ line _ _ first _
     (omega arith) (omega arith) c.loop-first.invariant.start c.requires.far_tops c.requires.peak.1
     (rw peak_is at (OnTrue_at c.if-is_clear-2.true c.is_clear-in-loop-first.ensures)) in
     sym (rw all
@@ -133,8 +133,8 @@ loop-first-preserved c =
     ap (λ x. x / 128) (sym c.lead_at-block.ensures) in
     let low = rw c.deref.ensures.value at
     (OnTrue_at c.if-not-is_clear_of_blocks.false c.is_clear_of_blocks.ensures) in
-    let none = none_from p first (end - first) (λ k above below. step_passed 128 c.args.cells.now
-    c.args.tops.now.far.items line c.args.far first end k block c.loop-first.start c.at-next.result
+    let none = none_from p first (end - first) (λ k above below. step_passed 128 _
+    _ line _ first end k block _ _
     (omega arith) above (omega arith)
     (omega arith) c.loop-first.invariant.start c.at-next.ensures c.requires.far_tops
     (c.block_end-end.ensures.same k above (omega arith) ∙ here) low) in

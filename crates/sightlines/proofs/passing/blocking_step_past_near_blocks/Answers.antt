@@ -74,8 +74,8 @@ loop-step-preserved c =
     let here : whole_at line.lead (steps_of line) step / 16 ≡ block =
     ap (λ x. x / 16) (sym c.lead_at-block.ensures) in
     let low = OnTrue_at c.if-not-is_clear_of_blocks.false c.is_clear_of_blocks.ensures in
-    let none = none_from p step (past - step) (λ k above below. step_passed 16 c.args.cells.now
-    c.args.tops.now line c.args.strides step past k block c.loop-step.here c.to-next.result
+    let none = none_from p step (past - step) (λ k above below. step_passed 16 _
+    _ line _ step past k block _ _
     (omega arith) above (omega arith)
     (omega arith) c.loop-step.invariant.start c.to-next.ensures c.requires.tops
     (c.block_end-past.ensures.same k above (omega arith) ∙ here) low) in

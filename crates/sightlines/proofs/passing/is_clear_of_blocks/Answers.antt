@@ -17,8 +17,8 @@ are_low-requires-clause-room c i below =
     (max line.lead.from line.lead.to / c.args.size) strides.lead c.requires.lead (omega arith) in
     let high = c.min-2.result / c.args.size in
     let highest = div_le c.min-2.result (max line.side.from line.side.to)
-    c.args.size c.requires.size (omega (arith, c.min-2.ensures, c.max-farthest.ensures)) in
-    let lowest = div_le c.min.result c.min-2.result c.args.size c.requires.size
+    _ c.requires.size (omega (arith, c.min-2.ensures, c.max-farthest.ensures)) in
+    let lowest = div_le c.min.result c.min-2.result _ c.requires.size
     (omega (arith, c.min.ensures, c.min-2.ensures, c.max.ensures, c.max-farthest.ensures)) in
     let b = mul-le (low + i) strides.side (max line.side.from line.side.to / c.args.size)
     strides.side (omega (arith, highest, lowest)) (omega arith) in
@@ -58,6 +58,6 @@ returns c =
     let P : Option ℤ → Type 0 = λ top. IsLow top (steps_of line) c.min-sight.result in
     let here = subst P top_is is in
     let top = get_or tops (first + q * strides.side) None in (
-      low_more top (steps_of line) c.min-sight.result c.args.start.sight below_start here,
-      low_more top (steps_of line) c.min-sight.result c.args.end.sight below_end here,
+      low_more top _ _ _ below_start here,
+      low_more top _ _ _ below_end here,
     ))

@@ -24,7 +24,7 @@ loop-height-preserved c =
     let height = c.loop-height.height in
     let raised = c.raised.result in
     let here : is_seen t o q height c.args.radius ≡ false =
-    hidden_by_either (is_seen t o q height c.args.radius) (walk_blocks t.cells lines.columns)
+    hidden_by_either _ (walk_blocks t.cells lines.columns)
     (walk_blocks t.cells lines.rows) c.in-Some.ensures.seen
     (sym c.blocker_past_blocks.ensures ∙ ap is_some c.in-Some-blocker_past_blocks.is) in
     record {

@@ -22,13 +22,13 @@ overflow_add-index c =
 pub is_higher-requires-clause-near : goal.is_higher-requires-clause-near
 is_higher-requires-clause-near c =
     let line = c.args.line in
-    rw c.loop-step.invariant.index (near_inside c.args.cells.now line.lead line.side
+    rw c.loop-step.invariant.index (near_inside _ _ _
     (steps_of line) c.loop-step.step c.requires.over (omega arith) (omega arith))
 
 pub is_higher-requires-clause-far : goal.is_higher-requires-clause-far
 is_higher-requires-clause-far c some =
     let line = c.args.line in
-    rw c.loop-step.invariant.index (far_inside c.args.cells.now line.lead line.side
+    rw c.loop-step.invariant.index (far_inside _ _ _
     (steps_of line) c.loop-step.step c.requires.over (omega arith) (omega arith)
     (omega (arith, c.loop-step.invariant.part)))
 
@@ -54,7 +54,7 @@ returns-then-is_higher-clause-answer c =
 pub next-requires-clause-room : goal.next-requires-clause-room
 next-requires-clause-room c =
     let line = c.args.line in
-    let fits = room line.lead line.side (steps_of line) c.loop-step.step c.args.pace (omega arith)
+    let fits = room _ _ _ c.loop-step.step _ (omega arith)
     (omega arith) c.requires.pace c.requires.line.ends c.requires.line.strides in
     omega (arith, fits, c.loop-step.invariant.index)
 
@@ -62,7 +62,7 @@ pub next-requires-clause-stays : goal.next-requires-clause-stays
 next-requires-clause-stays c below =
     let line = c.args.line in
     let is =
-    index_stays line.lead line.side (steps_of line) c.loop-step.step c.args.pace refl (omega arith)
+    index_stays _ _ _ c.loop-step.step _ refl (omega arith)
     c.requires.pace (omega (arith, c.loop-step.invariant.part, c.requires.pace.steps)) in
     omega (arith, is.0, c.loop-step.invariant.index)
 
@@ -70,14 +70,14 @@ pub next-requires-clause-passes : goal.next-requires-clause-passes
 next-requires-clause-passes c passed =
     let line = c.args.line in
     let is =
-    index_passes line.lead line.side (steps_of line) c.loop-step.step c.args.pace refl (omega arith)
+    index_passes _ _ _ c.loop-step.step _ refl (omega arith)
     c.requires.pace (omega (arith, c.loop-step.invariant.part, c.requires.pace.steps)) in
     omega (arith, is.0, c.loop-step.invariant.index)
 
 pub overflow_add-sight : goal.overflow_add-sight
 overflow_add-sight c =
     let line = c.args.line in
-    (next_elevation line.from_elevation line.to_elevation (steps_of line)
+    (next_elevation _ _ (steps_of line)
     c.loop-step.step c.loop-step.sight-bits c.requires.line.from_elevation
     c.requires.line.to_elevation (omega arith) (omega arith) c.loop-step.invariant.sight).0
 
@@ -87,12 +87,12 @@ loop-step-preserved c =
     let n = steps_of line in
     let k = c.loop-step.step in
     let first = c.args.first in
-    let next = next_is line.lead line.side n k c.args.pace c.next.result.0 c.next.result.1 refl
+    let next = next_is _ _ n k _ c.next.result.0 c.next.result.1 refl
     (omega arith) c.requires.pace
     (rw (c.loop-step.invariant.index, c.loop-step.invariant.part) at c.next.ensures.stays)
     (rw (c.loop-step.invariant.index, c.loop-step.invariant.part) at c.next.ensures.passes) in
     let elevation =
-    next_elevation line.from_elevation line.to_elevation n k c.loop-step.sight-bits
+    next_elevation _ _ n k c.loop-step.sight-bits
     c.requires.line.from_elevation c.requires.line.to_elevation (omega arith) (omega arith)
     c.loop-step.invariant.sight in
     let p =
@@ -128,9 +128,9 @@ pub overflow_sub-rise : goal.overflow_sub-rise
 overflow_sub-rise c =
     let line = c.args.line in
     let from =
-    to_z-of_z w64 line.from_elevation (elevation_fits line.from_elevation
+    to_z-of_z w64 line.from_elevation (elevation_fits _
     c.requires.line.from_elevation) in
-    let to = to_z-of_z w64 line.to_elevation (elevation_fits line.to_elevation
+    let to = to_z-of_z w64 line.to_elevation (elevation_fits _
     c.requires.line.to_elevation) in
     rw (from, to)
     (rise_fits line.from_elevation line.to_elevation c.requires.line.from_elevation

@@ -51,7 +51,7 @@ returns-clause-between c b inside low high =
     let end : c.min.result ≡ min (unsigned_abs c.max-past.result) c.args.self.side.cells =
     rw past_back at c.min.ensures in
     let past_b : b < unsigned_abs c.max-past.result =
-    rw past (from_0_high ((pos at +ℤ c.args.high) +ℤ pos 2) b (below b at c.args.high high)) in (
-      rw (first_back, first) (from_0_low (pos at +ℤ c.args.low) b (above b at c.args.low low)),
+    rw past (from_0_high _ b (below b at c.args.high high)) in (
+      rw (first_back, first) (from_0_low _ b (above b at _ low)),
       omega (arith, end, past_b, inside),
     )

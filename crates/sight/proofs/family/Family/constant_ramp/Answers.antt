@@ -13,7 +13,7 @@ returns-clause-at c t is =
     let eye_is = back eye (omega (arith, c.requires.family.eye)) in
     let small = base_small height eye c.requires.height c.requires.family.eye in
     let base = back (height -ℤ eye) (omega (arith, small)) in
-    let product = times_small (height -ℤ eye) (pos t.line) (10 ^ 15 + 2 ^ 50) 4096 small
+    let product = times_small (height -ℤ eye) (pos t.line) _ 4096 small
     (omega (arith, is.line)) in
     rw (height_is, eye_is, base) (record {
       lines = (c.requires.line.0, c.requires.line.1);

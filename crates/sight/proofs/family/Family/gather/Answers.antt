@@ -7,7 +7,7 @@ returns-clause-few c = omega (arith, c.loop-line.invariant.few)
 
 pub returns-clause-rays : goal.returns-clause-rays
 returns-clause-rays c =
-    all_gathered c.args.self c.args.extent c.args.flags.now c.loop-line.line c.loop-line.rays.items
+    all_gathered _ _ _ _ _
     (omega arith) (λ m crosses.
     omega (arith, c.end_line.ensures.end m crosses)) c.loop-line.invariant
 

@@ -42,12 +42,12 @@ returns-then-not-has c =
     let out : Crosses c.args.self c.args.extent c.args.line →
     ⊥ = λ crosses. both_ways c.has.result c.if-not-has.true (c.has.ensures.1 (subst
     (λ (x : ℕ). IsInRun c.args.extent.lines x) (sym c.lead_of-lead.ensures) crosses.within)) in
-    line_passed c.args.self c.args.extent c.args.flags.now c.args.line c.args.rays.now.items out
+    line_passed _ _ _ _ _ out
     c.requires.rays
 
 pub returns : goal.returns
 returns c =
-    line_ended c.args.self
-    c.args.extent c.args.flags.now c.args.line c.loop-cell.cell c.loop-cell.rays.items (omega arith)
+    line_ended _
+    _ _ _ _ _ (omega arith)
     (omega (arith, c.loop-cell.auto.cell-end, c.requires.extent.side, c.requires.family.cells))
     c.loop-cell.invariant

@@ -12,9 +12,9 @@ use Rattle.sight.proofs.family.Family.has_ramp.Goals as goal
 
 pub ramp-requires-clause-heights : goal.ramp-requires-clause-heights
 ramp-requires-clause-heights c = (
-  kept c.in-Some-height_at.near (c.requires.heights c.in-Some.index c.in-Some-height_at.near
+  kept _ (c.requires.heights c.in-Some.index c.in-Some-height_at.near
       (sym c.height_at.ensures ∙ c.in-Some-height_at.is)),
-  kept c.in-Some-height_at-2.far (c.requires.heights (c.in-Some.index + c.args.self.side.stride)
+  kept _ (c.requires.heights (c.in-Some.index + c.args.self.side.stride)
       c.in-Some-height_at-2.far (sym c.height_at-2.ensures ∙ c.in-Some-height_at-2.is)),
 )
 
@@ -41,7 +41,7 @@ same_ramp r s e =
     let rest = and_parts (int_eq r.intercept s.intercept)
     (eqb r.lines s.lines && eqb r.clear_to s.clear_to) first.1 in
     let last = and_parts (eqb r.lines s.lines) (eqb r.clear_to s.clear_to) rest.1 in
-    ramp_is r.gain s.gain r.intercept s.intercept r.lines s.lines r.clear_to s.clear_to
+    ramp_is _ _ _ _ _ _ _ _
     (int_same r.gain s.gain first.0) (int_same r.intercept s.intercept rest.0)
     (eqb-true r.lines s.lines last.0) (eqb-true r.clear_to s.clear_to last.1)
   where
@@ -68,13 +68,12 @@ returns-clause-shows c =
     let ramp : c.ramp.result ≡ ramp_of f k offset near far =
     rw (back, near_back, far_back) at c.ramp.ensures.ramp in
     let at = rw back at c.ramp.ensures.at in
-    OnTrue_from c.eq.result ((t : Target) → IsTarget t → Passes k offset t →
-    IsShadow cells f k t c.args.ramp) (λ yes.
+    OnTrue_from _ _ (λ yes.
     let same = same_ramp c.ramp.result c.args.ramp (sym c.eq.ensures ∙ yes) in
     let P : Ramp → Type 0 = λ r. (t : Target) → IsTarget t → Passes k offset t →
     IsShadow cells f k t r in
     subst P same (λ t is_t passes. record {
       at = at t is_t passes;
       hides = λ y rise stands later is. ap (λ r. ramp_hides r t rise) ramp ∙ shows_ramp cells f k
-          cell.0 y offset near far rise t stands later passes cell.2 here next;
+          _ y offset near far rise t stands later passes cell.2 here next;
     }))

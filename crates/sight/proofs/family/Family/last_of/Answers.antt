@@ -15,7 +15,7 @@ loop-self-preserved c =
     let first_back = back_short c.args.first (omega (arith, c.requires.first)) in
     let range : (c.args.first ≤ℤ last) × (last ≤ℤ pos 4096) = rw first_back at l.invariant.range in
     let next =
-    back_short (last +ℤ pos 1) (next_small c.args.first last c.requires.first range.0 range.1) in
+    back_short (last +ℤ pos 1) (next_small _ last c.requires.first range.0 range.1) in
     let inside = rw next at c.loop-self-test.ensures.inside in
     let shows = rw next at c.loop-self-test.ensures.shows in
     rw next (record {

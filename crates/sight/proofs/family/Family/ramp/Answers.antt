@@ -14,7 +14,7 @@ overflow_mul-result c =
     let step = back (far -ℤ near) (omega (arith, step_small near far heights.0 heights.1)) in
     let line = to_z_pos w64 c.args.line (omega (arith, c.requires.line)) in
     rw (near_is, far_is, step, line) (fits_signed_from_abs w64 ((far -ℤ near) *ℤ pos c.args.line)
-    (gain_small near far c.args.line heights.0 heights.1 c.requires.line.1))
+    (gain_small near far _ heights.0 heights.1 c.requires.line.1))
 
 pub overflow_mul-result-2 : goal.overflow_mul-result-2
 overflow_mul-result-2 c =
@@ -92,6 +92,6 @@ returns c =
     (record {
       ramp = refl;
       clear = refl;
-      at = λ t is_t passes. ramp_is c.args.self line offset near far t c.requires.family
+      at = λ t is_t passes. ramp_is _ line offset near far t c.requires.family
           c.requires.line heights.0 heights.1 is_t passes;
     })

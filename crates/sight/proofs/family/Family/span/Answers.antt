@@ -14,8 +14,8 @@ pub returns-in_default-clause-shows : goal.returns-in_default-clause-shows
 returns-in_default-clause-shows c t is_t slope among alone = record {
   at = c.nothing.ensures.at t is_t;
   hides = λ y rise stands later is.
-      let passes = passes_one c.args.line _ t among in
-      let cell = none_outside c.args.self c.args.line y _ t c.requires.family stands later passes in
+      let passes = passes_one _ _ t among in
+      let cell = none_outside _ _ y _ t c.requires.family stands later passes in
       absurd (omega (arith, c.in_default.ensures cell.0 cell.1, cell.2));
 }
 
@@ -31,7 +31,7 @@ returns-in_default-height_at-clause-shows c t is_t slope among alone =
     record {
       at = c.nothing.ensures.at t is_t;
       hides = λ y rise stands later is. c.nothing.ensures.below t rise is_t is
-          ∙ sym (nothing_near cells f k cell.0 y _ rise t stands later passes cell.2 none);
+          ∙ sym (nothing_near cells f k _ y _ rise t stands later passes cell.2 none);
     }
 
 pub returns-in-Some-height_at-2-clause-shows : goal.returns-in-Some-height_at-2-clause-shows
@@ -54,11 +54,11 @@ returns-in-Some-height_at-2-clause-shows c t is_t slope among alone =
     let last = c.last_of.result in
     let last_back = back_short last
     (omega (arith, ints, c.last_of.ensures.range, c.offset_at-offset.ensures.small)) in
-    among_shows cells f k offset last c.ramp-ramp.result t is_t.line.0 (rw last_back at among)
+    among_shows cells f k offset last _ t is_t.line.0 (rw last_back at among)
     (λ passes. record {
       at = c.ramp-ramp.ensures.at t is_t passes;
       hides = λ y rise stands later is. ap (λ r. ramp_hides r t rise) ramp
-          ∙ shows_ramp cells f k cell.0 y _ near far rise t stands later passes cell.2 here next;
+          ∙ shows_ramp cells f k _ y _ near far rise t stands later passes cell.2 here next;
     })
     (λ b past below passes. c.last_of.ensures.shows b t past below is_t passes)
 
@@ -84,25 +84,25 @@ returns-then-not-is_at_centre-clause-shows c t is_t slope among alone =
     let no = c.if-not-is_at_centre.true in
     absurd (cc)) in
     let past =
-    past_onward offset target.offset t.offset target.line t.line k is_t.line.0 slope beyond in
+    past_onward offset target.offset t.offset target.line _ k is_t.line.0 slope beyond in
     let passes = passes_one k offset t among in
     record {
       at = c.nothing.ensures.at t is_t;
       hides = λ y rise stands later is. c.nothing.ensures.below t rise is_t is ∙ sym
-          (nothing_far cells f k cell.0 y _ rise near t stands later passes cell.2 here next past);
+          (nothing_far cells f k _ y _ rise near t stands later passes cell.2 here next past);
     }
 
 pub ramp-ramp-requires-clause-heights : goal.ramp-ramp-requires-clause-heights
 ramp-ramp-requires-clause-heights c = (
-  kept c.in-Some-height_at.near (c.requires.heights c.in-Some.index c.in-Some-height_at.near
+  kept _ (c.requires.heights c.in-Some.index c.in-Some-height_at.near
       (sym c.height_at.ensures ∙ c.in-Some-height_at.is)),
-  kept c.in-Some-height_at-2.far (c.requires.heights (c.in-Some.index + c.args.self.side.stride)
+  kept _ (c.requires.heights (c.in-Some.index + c.args.self.side.stride)
       c.in-Some-height_at-2.far (sym c.height_at-2.ensures ∙ c.in-Some-height_at-2.is)),
 )
 
 pub ramp-requires-clause-heights : goal.ramp-requires-clause-heights
 ramp-requires-clause-heights c =
-    let is = kept c.in-Some-height_at.near (c.requires.heights c.in-Some.index
+    let is = kept _ (c.requires.heights c.in-Some.index
     c.in-Some-height_at.near (sym c.height_at.ensures ∙ c.in-Some-height_at.is)) in
     (is, is)
 
@@ -132,7 +132,7 @@ returns-clause-shows c t is_t slope among alone =
     record {
       at = c.ramp.ensures.at t is_t (passes_one k offset t among);
       hides = λ y rise stands later is. ap (λ r. ramp_hides r t rise) ramp
-          ∙ shows_centre cells f k cell.0 y offset near rise t stands later
+          ∙ shows_centre cells f k _ y offset near rise t stands later
           (ap (λ u. u.offset *ℤ pos k) same ∙ centred ∙ ap (λ u. offset *ℤ pos u.line) (sym same))
           cell.2 here;
     }

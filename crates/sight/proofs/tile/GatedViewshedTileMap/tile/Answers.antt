@@ -15,5 +15,5 @@ returns g c =
     (omega (arith, c.in_ok-count_observers.ensures.size, c.in_ok-values.ensures.size, old.ok.0)) in
     subst (λ (values : List (Option ℕ)). IsMadeTile self.tiling.now c.args.tile Has values)
     (sym whole)
-    (made_tile self.tiling.now c.args.tile b Has c.count_observers.new.values
+    (made_tile _ c.args.tile b Has _
     c.bounds-bounds.ensures.lawful c.bounds-bounds.ensures.value c.in_ok-count_observers.ensures)

@@ -26,7 +26,7 @@ returns-clause-eye c =
     let index : c.index_in.result ≡ p.row * t.cols + p.col =
     rw c.cols-cols.ensures.value at c.index_in.ensures in
     let at : get_or c.cells.result.now c.index_in.result None ≡ height_at t p =
-    rw c.cells.ensures.value (sym (height_is t p.row p.col c.index_in.result
+    rw c.cells.ensures.value (sym (height_is t _ _ _
     c.requires.observer.0 c.requires.observer.1 index)) in
     let elevation =
     rw (to_z-of_z w64 c.unwrap_or.result (search rules)) at c.elevation.ensures.value in

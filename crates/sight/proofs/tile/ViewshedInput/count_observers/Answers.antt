@@ -12,19 +12,19 @@ use Rattle.sight.proofs.tile.ViewshedInput.count_observers.Goals.{then-reaches+i
 pub reaches-requires-clause-observer : goal.reaches-requires-clause-observer
 reaches-requires-clause-observer g c =
     let self = c.args.self.now in
-    (lawful_from self.grid.now.terrain self.observers.now self.target_height self.radius
+    (lawful_from self.grid.now.terrain _ _ self.radius
     self.faultless).inside c.loop-observer.observer-index _ c.loop-observer-test.true
 
 pub flag_seen-requires-clause-observer : goal.flag_seen-requires-clause-observer
 flag_seen-requires-clause-observer g c =
     let self = c.args.self.now in
-    (lawful_from self.grid.now.terrain self.observers.now self.target_height self.radius
+    (lawful_from self.grid.now.terrain _ _ self.radius
     self.faultless).inside c.loop-observer.observer-index _ c.loop-observer-test.true
 
 pub flag_seen-requires-clause-eye : goal.flag_seen-requires-clause-eye
 flag_seen-requires-clause-eye g c =
     let self = c.args.self.now in
-    (lawful_from self.grid.now.terrain self.observers.now self.target_height self.radius
+    (lawful_from self.grid.now.terrain _ _ self.radius
     self.faultless).eyes_low c.loop-observer.observer-index _ c.loop-observer-test.true
 
 pub count_seen-requires-clause-few : goal.count_seen-requires-clause-few
@@ -32,8 +32,8 @@ count_seen-requires-clause-few g c k n e =
     let self = c.args.self.now in
     let lawful = lawful_from self.grid.now.terrain self.observers.now self.target_height self.radius
     self.faultless in
-    let before = few self.grid.now.terrain self.observers.now self.target_height self.radius
-    c.loop-observer.observer-index c.args.bounds c.loop-observer.values c.loop-observer.invariant k
+    let before = few self.grid.now.terrain self.observers.now _ _
+    c.loop-observer.observer-index _ _ c.loop-observer.invariant k
     n e in
     omega (arith, before, lawful.few)
 
@@ -48,13 +48,13 @@ loop-observer-preserved g c =
     self.target_height self.radius) (c.args.bounds.rows * c.args.bounds.cols) values in
     elim c.if-reaches.branch [
       | then-reaches+in_ok-flag_seen w ↦ subst Made (sym w.values-is)
-          (seen_counted t self.observers.now self.target_height self.radius i nobody c.args.bounds
-          c.loop-observer.values w.count_seen.new.values w.flag_seen.new.seen
+          (seen_counted t self.observers.now _ _ i nobody _
+          _ w.count_seen.new.values _
           c.loop-observer-test.true c.loop-observer.invariant w.in_ok-flag_seen.ensures
           w.count_seen.auto.values w.count_seen.ensures)
       | else-reaches w ↦ subst Made (sym w.values-is)
-          (unseen_counted t self.observers.now self.target_height self.radius i nobody c.args.bounds
-          c.loop-observer.values c.loop-observer-test.true c.loop-observer.invariant
+          (unseen_counted t self.observers.now _ _ i nobody _
+          _ c.loop-observer-test.true c.loop-observer.invariant
           (λ p inside. OnFalse_at w.if-reaches.false c.reaches.ensures p self.target_height inside))
     ]
 

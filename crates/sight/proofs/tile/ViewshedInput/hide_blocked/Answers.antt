@@ -12,11 +12,11 @@ use Rattle.sight.proofs.tile.ViewshedInput.hide_blocked.Goals as goal
 
 pub hide_on_both_sides-requires-clause-heights : goal.hide_on_both_sides-requires-clause-heights
 hide_on_both_sides-requires-clause-heights c = rw c.cells-cells.ensures.value
-    (are_heights c.args.self.now.grid.now.terrain c.cells-cells.ensures.lawful.terrain)
+    (are_heights _ c.cells-cells.ensures.lawful.terrain)
 
 pub hide_on_both_sides-requires-2-clause-heights : goal.hide_on_both_sides-requires-2-clause-heights
 hide_on_both_sides-requires-2-clause-heights c = rw c.cells-cells.ensures.value
-    (are_heights c.args.self.now.grid.now.terrain c.cells-cells.ensures.lawful.terrain)
+    (are_heights _ c.cells-cells.ensures.lawful.terrain)
 
 pub hide_on_both_sides-requires-clause-tops : goal.hide_on_both_sides-requires-clause-tops
 hide_on_both_sides-requires-clause-tops c =

@@ -12,26 +12,26 @@ use Rattle.sight.proofs.tile.ViewshedInput.lower_by_observers.Goals.{then-reache
 pub reaches-requires-clause-observer : goal.reaches-requires-clause-observer
 reaches-requires-clause-observer g c =
     let self = c.args.self.now in
-    (lawful_from self.grid.now.terrain self.observers.now self.target_height self.radius
+    (lawful_from self.grid.now.terrain _ _ self.radius
     self.faultless).inside c.loop-observer.observer-index _ c.loop-observer-test.true
 
 pub lower_values-requires-clause-observer : goal.lower_values-requires-clause-observer
 lower_values-requires-clause-observer g c =
     let self = c.args.self.now in
-    (lawful_from self.grid.now.terrain self.observers.now self.target_height self.radius
+    (lawful_from self.grid.now.terrain _ _ self.radius
     self.faultless).inside c.loop-observer.observer-index _ c.loop-observer-test.true
 
 pub lower_values-requires-clause-eye : goal.lower_values-requires-clause-eye
 lower_values-requires-clause-eye g c =
     let self = c.args.self.now in
-    (lawful_from self.grid.now.terrain self.observers.now self.target_height self.radius
+    (lawful_from self.grid.now.terrain _ _ self.radius
     self.faultless).eyes_low c.loop-observer.observer-index _ c.loop-observer-test.true
 
 pub lower_values-requires-clause-low : goal.lower_values-requires-clause-low
 lower_values-requires-clause-low g c =
     let self = c.args.self.now in
     limits_low self.grid.now.terrain (take c.loop-observer.observer-index self.observers.now)
-    self.radius c.args.bounds c.loop-observer.values c.loop-observer.invariant
+    self.radius _ _ c.loop-observer.invariant
 
 pub loop-observer-preserved : goal.loop-observer-preserved
 loop-observer-preserved g c =
@@ -44,12 +44,12 @@ loop-observer-preserved g c =
     self.radius) (c.args.bounds.rows * c.args.bounds.cols) values in
     elim c.if-reaches.branch [
       | then-reaches+in_ok-lower_values w ↦ subst Made (sym w.values-is)
-          (tile_lowered t self.observers.now self.radius i nobody c.args.bounds
-          c.loop-observer.values w.lower_values.new.values c.loop-observer-test.true
+          (tile_lowered t self.observers.now _ i nobody _
+          _ _ c.loop-observer-test.true
           c.loop-observer.invariant w.lower_values.auto.values w.in_ok-lower_values.ensures)
       | else-reaches w ↦ subst Made (sym w.values-is)
-          (tile_kept t self.observers.now self.radius i nobody c.args.bounds
-          c.loop-observer.values c.loop-observer-test.true c.loop-observer.invariant
+          (tile_kept t self.observers.now _ i nobody _
+          _ c.loop-observer-test.true c.loop-observer.invariant
           (OnFalse_at w.if-reaches.false c.reaches.ensures))
     ]
 

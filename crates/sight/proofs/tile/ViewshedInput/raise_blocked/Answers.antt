@@ -14,11 +14,11 @@ use Rattle.sight.proofs.tile.ViewshedInput.raise_blocked.Goals as goal
 
 pub raise_on_both_sides-requires-clause-heights : goal.raise_on_both_sides-requires-clause-heights
 raise_on_both_sides-requires-clause-heights c = rw c.cells-cells.ensures.value
-    (are_heights c.args.self.now.grid.now.terrain c.cells-cells.ensures.lawful.terrain)
+    (are_heights _ c.cells-cells.ensures.lawful.terrain)
 
 pub raise_on_both_sides-requires-2-clause-heights : goal.raise_on_both_sides-requires-2-clause-heights
 raise_on_both_sides-requires-2-clause-heights c = rw c.cells-cells.ensures.value
-    (are_heights c.args.self.now.grid.now.terrain c.cells-cells.ensures.lawful.terrain)
+    (are_heights _ c.cells-cells.ensures.lawful.terrain)
 
 pub raise_on_both_sides-requires-clause-tops : goal.raise_on_both_sides-requires-clause-tops
 raise_on_both_sides-requires-clause-tops c =
@@ -68,7 +68,7 @@ returns c =
     (λ (are : AreClear t.cells (family_of (rows_at t b p) (columns_at b p) e)
     (extent_of (rows_at t b p) (columns_at b p)) flags mid new) q inside flagged.
     let k = index_in b q in
-    raised_open t o q (get_or mid k 0) (get_or new k 0) (
+    raised_open t o q _ _ (
       subst (λ (z : ℕ). IsRaised (λ h. column_blocks t p q e (height_of t q +ℤ pos h)) z
           (get_or mid k 0)) (c.requires.low k)
           (columns_raised t p b e flags old mid c.requires.observer in_rows in_cols clear_columns q

@@ -20,7 +20,7 @@ loop-row-preserved c =
         | inr last ↦
             let here : p.row ≡ c.loop-row.row = omega arith in
             let inside = inside_from_entry t.cols t.rows t.cells p h is in
-            let in_cols = in_block self.size p.col c.args.block.col self.sized.0 col in
+            let in_cols = in_block _ p.col _ self.sized.0 col in
             let from = c.args.block.col * self.size in
             let line = c.loop-row.row * self.cols in
             let run = run_at self.cells.now (line + from) (line + c.min-to.result) (p.col - from)
@@ -28,8 +28,8 @@ loop-row-preserved c =
             let place : line + from + (p.col - from) ≡ p.row * self.cols + p.col =
             omega (arith, in_cols, ap (λ n. n * self.cols) here) in
             let at = run ∙ ap (λ n. get_or self.cells.now n None) place
-            ∙ sym (entry-inside t.cols t.rows t.cells p inside.0 inside.1) ∙ is in
-            top_over c.top_of.result c.greater_height-top.result h
+            ∙ sym (entry-inside _ _ t.cells p inside.0 inside.1) ∙ is in
+            top_over _ _ h
             c.greater_height-top.ensures.raised (c.top_of.ensures.top (p.col - from) h at)
       ];
     }
@@ -42,7 +42,7 @@ returns c =
       height = c.loop-row.invariant.height;
       above = λ p h row col is.
           let inside = inside_from_entry t.cols t.rows t.cells p h is in
-          let in_rows = in_block self.size p.row c.args.block.row self.sized.0 row in
+          let in_rows = in_block _ p.row _ self.sized.0 row in
           c.loop-row.invariant.above p h row
           (omega (arith, in_rows, inside, c.loop-row-test.false, c.min-row-end.ensures)) col is;
     })

@@ -14,7 +14,7 @@ index_of-requires-clause-inside c =
     let block = c.args.block in
     let first = make_place (block.row * 16) (block.col * 16) in
     let within : IsWithin c.args.self.now.tiles.now.tiling.now first = search rules in
-    rw c.blocks_begun-begun.ensures (begins_there c.bounds.result block
+    rw c.blocks_begun-begun.ensures (begins_there _ block
     ((c.bounds.ensures.places first).0 (within, sym c.tile_of-tile.ensures.number)))
 
 pub returns : goal.returns
@@ -32,11 +32,11 @@ returns c =
     let first = make_place (c.args.block.row * 16) (c.args.block.col * 16) in
     let within : IsWithin tiles.tiling.now first = search rules in
     let inside : IsInBounds c.blocks_begun-begun.result c.args.block =
-    rw c.blocks_begun-begun.ensures (begins_there c.bounds.result c.args.block
+    rw c.blocks_begun-begun.ensures (begins_there _ c.args.block
     ((c.bounds.ensures.places first).0 (within, sym c.tile_of-tile.ensures.number))) in
     let index = c.index_of.result in
     let at : slice_get list.items index ≡ Some c.index.result.now =
-    slice_get_read list.items (length list.items) index c.index.result.now refl
+    slice_get_read list.items (length list.items) index _ refl
     (omega (arith, c.index_of.ensures.below, made.size)) (c.index.ensures
     ∙ ap (λ (v : Vec (Option ℤ) Global). get_or v.items index c.index.result.now)
     (sym c.index-self-tile.is)) in

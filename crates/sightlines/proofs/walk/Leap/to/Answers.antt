@@ -18,7 +18,7 @@ overflow_add-whole c =
 pub overflow_add-sight : goal.overflow_add-sight
 overflow_add-sight c =
     let line = c.args.line in
-    (leapt_elevation line.from_elevation line.to_elevation c.args.start.sight c.args.self.rise
+    (leapt_elevation _ _ _ _
     (steps_of line) c.args.first 16
     c.requires.line.from_elevation c.requires.line.to_elevation (omega arith)
     (omega arith) c.requires.start.sight c.requires.leap.rise).0
@@ -38,8 +38,8 @@ returns-then-part-steps c =
     let is = rw end at (step_stays line.side.from line.side.to (steps_of line) c.args.first 16
     c.args.self.ahead c.args.self.behind c.args.self.part (omega arith) c.requires.leap.gains.sum
     (omega (arith, c.requires.start.part))) in
-    let elevation = rw end at (leapt_elevation line.from_elevation line.to_elevation
-    c.args.start.sight c.args.self.rise (steps_of line) c.args.first 16
+    let elevation = rw end at (leapt_elevation _ _
+    _ _ (steps_of line) c.args.first 16
     c.requires.line.from_elevation c.requires.line.to_elevation (omega arith)
     (omega arith) c.requires.start.sight c.requires.leap.rise) in
     record {
@@ -63,7 +63,7 @@ overflow_sub-result-2 c =
     let line = c.args.line in
     let gains = c.requires.leap.gains in
     let is = step_passes line.side.from line.side.to
-    (steps_of line) c.args.first 16 c.args.self.ahead c.args.self.behind c.args.self.part
+    _ c.args.first 16 c.args.self.ahead c.args.self.behind _
     (omega arith) (omega arith) gains.sum gains.below
     (omega (arith, c.requires.start.part)) in
     omega (arith, is.0, c.requires.start.whole)
@@ -74,11 +74,11 @@ returns c =
     let gains = c.requires.leap.gains in
     let end : c.args.first + 16 ≡ c.args.end = omega arith in
     let is = rw end at (step_passes line.side.from line.side.to
-    (steps_of line) c.args.first 16 c.args.self.ahead c.args.self.behind c.args.self.part
+    _ c.args.first 16 c.args.self.ahead c.args.self.behind _
     (omega arith) (omega arith) gains.sum gains.below
     (omega (arith, c.requires.start.part))) in
-    let elevation = rw end at (leapt_elevation line.from_elevation line.to_elevation
-    c.args.start.sight c.args.self.rise (steps_of line) c.args.first 16
+    let elevation = rw end at (leapt_elevation _ _
+    _ _ (steps_of line) c.args.first 16
     c.requires.line.from_elevation c.requires.line.to_elevation (omega arith)
     (omega arith) c.requires.start.sight c.requires.leap.rise) in
     record {

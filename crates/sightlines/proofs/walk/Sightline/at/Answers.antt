@@ -30,13 +30,13 @@ sight_is line k is within =
     let from =
     scaled_as_reckoned line.from_elevation (n - k) is.from_elevation (omega (arith, is)) in
     let to = scaled_as_reckoned line.to_elevation k is.to_elevation (omega (arith, is)) in
-    let fit = sight_fits _ line.to_elevation n k is.from_elevation is.to_elevation within
+    let fit = sight_fits _ _ n k is.from_elevation is.to_elevation within
     (omega (arith, is)) in
     rw (from.1, to.1) (fit, to_z-of_z w64 (sight line.from_elevation line.to_elevation n k) fit)
 
 pub overflow_add-result : goal.overflow_add-result
 overflow_add-result c =
-    let is = sight_is c.args.self c.args.step c.requires.line c.requires.step in
+    let is = sight_is _ _ c.requires.line c.requires.step in
     rw c.steps-steps.ensures is.0
 
 pub returns : goal.returns
@@ -44,5 +44,5 @@ returns c = record {
   whole = rw c.steps-steps.ensures refl;
   part = rw c.steps-steps.ensures refl;
   sight = rw c.steps-steps.ensures
-      (sight_is c.args.self c.args.step c.requires.line c.requires.step).1;
+      (sight_is _ _ c.requires.line c.requires.step).1;
 }
