@@ -1,14 +1,20 @@
-use Rattle.std.proofs.Common.{arith, rules, sym, ap, subst, ◌∙◌, ◌≡◌, ℕ, ◌+◌, Bool, List, length, get_or, pos, Some, w64}
+use Rattle.std.proofs.Common.{arith, rules, refl, sym, ap, subst, ◌∙◌, ◌≡◌, ◌≢◌, ℕ, ◌+◌, ◌-◌, Bool, true, false, not, ◌&&◌, inl, inr, set, List, length, get_or, pos, Some, w64}
 use Rattle.std.specs.Prelude.{slice_get}
 use Rattle.std.proofs.lemmas.Int.{to_z-of_z}
 use Rattle.std.proofs.lemmas.Option.{slice_get-get_or, slice_get_within}
 use Rattle.horizons.specs.declared.target.Target.{Target}
-use Rattle.sight.specs.Sweep.{is_blocked_before}
+use Rattle.sight.specs.Sweep.{is_blocked_before, lead_of}
 use Rattle.sight.specs.Looking.{LooksFrom}
-use Rattle.sight.specs.Hiding.{rise_at, AreRays}
-use Rattle.sight.proofs.ClearedFlags.{AreHiddenBelow, ray_at, rank_at, ray_is_target, extent_kept, looked_on, none_tested, blocked_tested, open_tested, all_tested}
+use Rattle.sight.specs.Hiding.{flag_in_extent, flag_index, rise_at, AreRays, IsFlagLeft}
+use Rattle.std.proofs.lemmas.Bool.{and_left, and_right, cases_Bool}
+use Rattle.std.proofs.lemmas.List.{get_or-set_same, get_or-set_other, length-set}
+use Rattle.sight.proofs.EachRay.{AreMetBelow, ray_at, rank_at, ray_is_target, extent_kept, looked_on, none_met, ray_met, all_met}
 use Rattle.sight.proofs.hiding.hide.Goals as goal
 use Rattle.sight.proofs.hiding.hide.Goals.{then-hides, else-hides}
+
+and_true : (a b : Bool) → b ≡ true → (a && b) ≡ a
+and_true true b h = h
+and_true false b h = refl
 
 pub rank-requires-clause-each : goal.rank-requires-clause-each
 rank-requires-clause-each c i t at =
@@ -29,8 +35,7 @@ loop-number-init c =
           ∙ at in
           let ray = (c.in_ok-rays.ensures.rays.each u t here).0 in
           omega (arith, first.line, ray.crosses.later);
-      flags = none_tested _ _ _ _
-          _ _;
+      flags = none_met false _ c.args.family c.args.extent c.deref-ray-items.result.now _;
     }
 
 pub go_to-requires-clause-line : goal.go_to-requires-clause-line
@@ -126,6 +131,12 @@ loop-number-preserved c =
     ∙ ap (λ z. is_blocked_before cells f t.line ray.cell z t.line)
     (c.rise-rise.ensures.value ray.cell ray.stands) in
     let line : c.hides.new.self.line ≡ t.line = c.hides.ensures.line ∙ lookup.line in
+    let met : (new : List Bool) → length new ≡ length flags → ((k : ℕ) → k ≢ flag_index w (lead_of f t.line) ray.cell →
+        get_or new k false ≡ get_or flags k false) → IsFlagLeft cells f height t.line ray.cell
+        (flag_in_extent w (lead_of f t.line) ray.cell old) (flag_in_extent w (lead_of f t.line) ray.cell new) →
+        AreMetBelow false (IsFlagLeft cells f height) f w rays (n + 1) old new = λ new size others is.
+        ray_met false (IsFlagLeft cells f height) f w rays n old flags new t ray.cell c.requires.apart at_t ray.stands
+        ray.within ray.crosses size others is c.loop-number.invariant.flags in
     record {
       looks = looked_on cells f targets _ _ _ lookup
           c.hides.ensures.line c.hides.ensures.highest c.hides.ensures.cursor;
@@ -133,25 +144,33 @@ loop-number-preserved c =
       line = λ u s after at_s. omega (arith, line, are.sorted n u t s (omega arith) at_t at_s);
       flags = elim c.if-hides.branch [
         | then-hides w' ↦
-            subst (λ (ms : List Bool). AreHiddenBelow cells f w height rays (n + 1) old ms)
-            (sym (w'.flags-is ∙ w'.clear_flag.ensures ray.cell ray.stands))
-            (blocked_tested cells f w height rays n old flags t _ c.requires.apart
-            (extent_kept f w old flags c.loop-number.invariant.flags.size c.requires.extent)
-            at_t ray.stands ray.within ray.crosses (sym reported
-            ∙ w'.if-hides.true) c.loop-number.invariant.flags)
-        | else-hides w' ↦
-            subst (λ (ms : List Bool). AreHiddenBelow cells f w height rays (n + 1) old ms)
-            (sym w'.flags-is)
-            (open_tested cells f w height rays n old flags t _ at_t ray.stands (sym reported
-            ∙ w'.if-hides.false) c.loop-number.invariant.flags)
+            let i = flag_index w (lead_of f t.line) ray.cell in
+            let new = w'.flags-is ∙ w'.clear_flag.ensures ray.cell ray.stands in
+            let within = (extent_kept f w old flags c.loop-number.invariant.flags.size c.requires.extent).inside
+                (lead_of f t.line - w.lines.first) (ray.cell - w.side.first) (omega (arith, ray.crosses.within))
+                (omega (arith, ray.within)) in
+            rw new (met (set flags i false) (length-set flags i false)
+                (λ k other. get_or-set_other flags i k false false other)
+                (get_or-set_same flags i false false within
+                ∙ sym (and_right (get_or old i false) _ (ap not (sym reported ∙ w'.if-hides.true)))))
+        | else-hides w' ↦ rw w'.flags-is (met flags refl (λ k other. refl)
+            (elim (c.loop-number.invariant.flags.crossed t.line ray.cell ray.crosses ray.within) [
+              | inl is ↦ is
+              | inr e ↦ e.0 ∙ sym (and_true _ _ (ap not (sym reported ∙ w'.if-hides.false)))
+            ]))
       ];
     }
 
 pub returns : goal.returns
 returns c =
     let rays = c.deref-ray-items.result.now in
-    let are : AreRays c.args.family c.args.extent c.args.flags.now 4097 0 rays =
-    rw c.deref-ray-items.ensures.value c.in_ok-rays.ensures.rays in
+    let f = c.args.family in
+    let w = c.args.extent in
+    let old = c.args.flags.now in
+    let are : AreRays f w old 4097 0 rays = rw c.deref-ray-items.ensures.value c.in_ok-rays.ensures.rays in
     let end : c.loop-number.number ≡ length rays = omega arith in
-    all_tested _ _ _ _ rays _
-    _ are (rw end at c.loop-number.invariant.flags)
+    all_met false (IsFlagLeft c.args.cells.now f c.args.height) f w rays old c.loop-number.flags (λ n y crosses in_y.
+        elim (cases_Bool (flag_in_extent w (lead_of f n) y old)) [
+          | inl flagged ↦ inr (are.whole n y (inl (omega (arith, crosses.line.1))) crosses in_y flagged)
+          | inr unflagged ↦ inl (unflagged ∙ sym (and_left _ _ unflagged))
+        ]) (rw end at c.loop-number.invariant.flags)

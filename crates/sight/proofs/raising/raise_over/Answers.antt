@@ -5,10 +5,10 @@ use Rattle.horizons.specs.declared.target.Target.{Target}
 use Rattle.horizons.specs.Horizons.{hides}
 use Rattle.sight.specs.Sweep.{lead_of}
 use Rattle.sight.specs.Looking.{LooksFrom}
-use Rattle.sight.specs.Hiding.{flag_index, rise_at, AreRays}
-use Rattle.sight.specs.Raising.{IsRaised, lines_block_at}
-use Rattle.sight.proofs.ClearedFlags.{ray_at, rank_at, ray_is_target, looked_on}
-use Rattle.sight.proofs.Raised.{AreRaisedBelow, all_raised, none_raised, ray_index, ray_raised, raised_by, rise_small}
+use Rattle.sight.specs.Hiding.{flag_index, lines_block_at, rise_at, AreRays}
+use Rattle.sight.specs.Raising.{IsRaised, IsRaisedIn}
+use Rattle.sight.proofs.EachRay.{AreMetBelow, none_met, ray_at, rank_at, ray_is_target, looked_on}
+use Rattle.sight.proofs.Raised.{all_raised, ray_index, ray_raised, raised_by, rise_small, set_low}
 use Rattle.sight.proofs.raising.raise_over.Goals as goal
 
 pub rank-requires-clause-each : goal.rank-requires-clause-each
@@ -30,8 +30,8 @@ loop-number-init c =
           ∙ at in
           let ray = (c.in_ok-rays.ensures.rays.each u t here).0 in
           omega (arith, first.line, ray.crosses.later);
-      targets = none_raised _ _ _
-          _ _ c.requires.targets;
+      most = c.requires.targets;
+      targets = none_met 0 _ c.args.family c.args.extent c.deref-ray-items.result.now _;
     }
 
 pub go_to-requires-clause-line : goal.go_to-requires-clause-line
@@ -173,9 +173,15 @@ loop-number-preserved c =
           c.raise.ensures.line c.raise.ensures.highest c.raise.ensures.cursor;
       some = omega (arith, line, ray.crosses.later);
       line = λ u s after at_s. omega (arith, line, are.sorted n u t s (omega arith) at_t at_s);
-      targets = subst (λ (i : ℕ). AreRaisedBelow cells f w rays (n + 1) old
+      most = set_low _ c.flag_index-index.result _ (omega (
+        arith,
+        within,
+        c.requires.size,
+        c.loop-number.invariant.targets.size,
+      )) raised.most c.loop-number.invariant.most;
+      targets = subst (λ (i : ℕ). AreMetBelow 0 (IsRaisedIn cells f w c.args.flags.now) f w rays (n + 1) old
           (set c.loop-number.targets i c.raise.result)) (sym index)
-          (ray_raised cells f w rays n old _ t _ _
+          (ray_raised cells f w _ rays n old _ t _ _
           c.requires.apart (omega (
             arith,
             within,
@@ -195,4 +201,4 @@ returns c =
     rw c.deref-ray-items.ensures.value c.in_ok-rays.ensures.rays in
     let end : c.loop-number.number ≡ length rays = omega arith in
     all_raised _ _ _ rays _
-    _ _ are (rw end at c.loop-number.invariant.targets)
+    _ _ are c.loop-number.invariant.most (rw end at c.loop-number.invariant.targets)
