@@ -45,7 +45,7 @@ among_shows cells f k first last ramp t some among here onward =
     let b = int_div_euclid x (pos t.line) in
     let passes : Passes k b t =
     record { low = floor_low x _ some; high = floor_high x _ some } in
-    let above = smaller first b t.line (omega (arith, ints, among.low, passes.high)) in
+    
     let below = smaller b last t.line (omega (arith, ints, passes.low, among.high)) in
     by_lt_z first b (λ past. onward b past below passes) (λ not.
     here (record {
@@ -68,21 +68,21 @@ pub passes_between : (targets : List Target) (none : Target)
 passes_between targets none k from end i low high t are few first last a b at =
     let s = get_or targets from none in
     let u = get_or targets (end - 1) none in
-    let at_s : slice_get targets from ≡ Some s = slice_get-get_or targets from none (omega arith) in
-    let at_u : slice_get targets (end - 1) ≡ Some u =
+    let at_s = slice_get-get_or targets from none (omega arith) in
+    let at_u =
     slice_get-get_or targets (end - 1) none (omega arith) in
-    let s_line = (are.each from s at_s).line.0 in
+    
     let t_line = (are.each i t at).line.0 in
-    let u_line = (are.each (end - 1) u at_u).line.0 in
+    
     let x = t.offset *ℤ pos k in
     let offset = int_div_euclid x (pos t.line) in
     let passes : Passes k offset t =
     record { low = floor_low x _ t_line; high = floor_high x _ t_line } in (
       offset,
       passes,
-      offsets_rise k low offset s t s_line t_line
+      offsets_rise k low offset s t ((are.each from s at_s).line.0) t_line
           (slope_up targets from i s t are a at_s at) first passes,
-      offsets_rise k offset high t u t_line u_line
+      offsets_rise k offset high t u t_line ((are.each (end - 1) u at_u).line.0)
           (slope_up targets i (end - 1) t u are (omega arith) at at_u) passes last,
     )
 
@@ -167,17 +167,16 @@ constant_hides : (f : Family) (k : ℕ) (offset near far top rise : ℤ) (t : Ta
     ramp_hides (constant_ramp f k top) t rise ≡ true
 constant_hides f k offset near far top rise t passes a b hides =
     let m = past k offset t passes in
-    let value = ramp_between f k _ offset near far t m.1 m.2 in
-    let few : ((near -ℤ f.eye) *ℤ pos (t.line - m.0)) ≤ℤ ((top -ℤ f.eye) *ℤ pos (t.line - m.0)) =
+    
+    let few =
     grows (near -ℤ f.eye) (top -ℤ f.eye) (t.line - m.0) (omega (arith, ints, a)) in
-    let rest : ((far -ℤ f.eye) *ℤ pos m.0) ≤ℤ ((top -ℤ f.eye) *ℤ pos m.0) =
+    let rest =
     grows (far -ℤ f.eye) (top -ℤ f.eye) m.0 (omega (arith, ints, b)) in
     let n_is : (t.line - m.0) + m.0 ≡ t.line = omega (arith, m.1) in
-    let whole : ramp_value (constant_ramp f k top) t ≡ ((top -ℤ f.eye) *ℤ pos (t.line - m.0))
-    +ℤ ((top -ℤ f.eye) *ℤ pos m.0) = sym (joined (top -ℤ f.eye) t.offset (t.line - m.0) m.0
+    let whole = sym (joined (top -ℤ f.eye) t.offset (t.line - m.0) m.0
     ∙ ap (λ n. (pos 0 *ℤ t.offset) +ℤ ((top -ℤ f.eye) *ℤ pos n)) n_is) in
     sym (true_is_lt (rise *ℤ pos k) (ramp_value (constant_ramp f k top) t)
-    (omega (arith, ints, hides, value, few, rest, whole)))
+    (omega (arith, ints, hides, ramp_between f k _ offset near far t m.1 m.2, few, rest, whole)))
   where
     joined : (e j : ℤ) (r m : ℕ) → (e *ℤ pos r) +ℤ (e *ℤ pos m) ≡ (pos 0 *ℤ j) +ℤ (e *ℤ pos (r + m))
     joined e j r m = omega (arith, ints)

@@ -26,7 +26,7 @@ pub top_over : (top result : Option ℤ) (h : ℤ) → ((m : ℤ) → top ≡ So
     IsTopOf top h → IsTopOf result h
 top_over None result h over is = absurd is
 top_over (Some m) None h over is = over m refl
-top_over (Some m) (Some r) h over is = let above : m ≤ℤ r = over m refl in
+top_over (Some m) (Some r) h over is = let above = over m refl in
     omega (arith, ints, is, above)
 
 pub run_at : (cells : List (Option ℤ)) (a b i : ℕ) → i < b - a →
@@ -38,9 +38,9 @@ pub in_block : (size r block : ℕ) → 0 < size → r / size ≡ block → (blo
     × (r < block * size + size)
 in_block size r block some is =
     let parts = div-add-mod' r size in
-    let small = mod_below r size some in
-    let begun : r / size * size ≡ block * size = ap (λ n. n * size) is in
-    (omega (arith, parts, begun), omega (arith, parts, begun, small))
+    
+    let begun = ap (λ n. n * size) is in
+    (omega (arith, parts, begun), omega (arith, parts, begun, mod_below r size some))
 
 pub few_blocks : (size cells : ℕ) → 0 < size → blocks_in size cells ≤ cells
 few_blocks size cells some = elim (cases_lt cells (blocks_in size cells)) [
@@ -93,10 +93,9 @@ tops_of_tops t near far low high = record {
   above = λ p h is.
       let inside = inside_from_entry t.cols t.rows t.cells p h is in
       let q = make_place (p.row / 16) (p.col / 16) in
-      let row : q.row < blocks_in 16 t.rows = block_before 16 _ _ (omega arith) inside.0 in
-      let col : q.col < blocks_in 16 t.cols = block_before 16 _ _ (omega arith) inside.1 in
-      let at : block_of 8 (ground_of (blocks_in 16 t.cols) (blocks_in 16 t.rows) near) q
-      ≡ block_of 128 t p =
+      let row = block_before 16 _ _ (omega arith) inside.0 in
+      let col = block_before 16 _ _ (omega arith) inside.1 in
+      let at =
       ap (λ n. n * blocks_in 8 (blocks_in 16 t.cols) + q.col / 8) (in_block_of_blocks p.row)
       ∙ ap (λ n. p.row / 128 * n + q.col / 8) (in_blocks t.cols)
       ∙ ap (λ n. p.row / 128 * blocks_in 128 t.cols + n) (in_block_of_blocks p.col) in
@@ -133,11 +132,11 @@ made_tops size t tops some made =
           let at = inside_from_entry t.cols t.rows t.cells p h is in
           let q = make_place (p.row / size) (p.col / size) in
           let row = block_before size _ _ some at.0 in
-          let col = block_before size _ _ some at.1 in
-          let own : index_in b q ≡ block_of size t p =
+          
+          let own =
           ap (λ n. n * b.cols + (q.col - 0)) (whole q.row) ∙ ap (λ n. q.row * b.cols + n) (whole q.col)
           in subst (λ n. IsTopOf (get_or tops n None) h) own
-          ((top q (omega arith, omega (arith, row), omega arith, omega (arith, col))).above p h refl refl is);
+          ((top q (omega arith, omega (arith, row), omega arith, omega (arith, block_before size _ _ some at.1))).above p h refl refl is);
     }
   where
     whole : (n : ℕ) → n - 0 ≡ n

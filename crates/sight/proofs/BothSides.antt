@@ -55,7 +55,7 @@ pub both_met : {A : Type 0} (default : A) (Met : Bool → ℕ → ℕ → A → 
     Met back n y a b → P a b) → ((a : A) → abs_diff f.lines.at x ≤ 1 → P a a) →
     P (entry_in_extent default w x y old) (entry_in_extent default w x y new)
 both_met {A} default Met f w old mid new few inside one two x y in_x in_y P met stays =
-    let at : List A → A = entry_in_extent default w x y in
+    let at = entry_in_extent default w x y in
     elim (cases_lt (f.lines.at + 1) x) [
       | inl ahead ↦
           let n = x - f.lines.at in

@@ -53,8 +53,8 @@ pub passes_within : (targets : List Target) (none : Target)
 passes_within targets none m n k from end i low high t are few first up last down a b at =
     let s = get_or targets from none in
     let u = get_or targets (end - 1) none in
-    let at_s : slice_get targets from ≡ Some s = slice_get-get_or targets from none (omega arith) in
-    let at_u : slice_get targets (end - 1) ≡ Some u =
+    let at_s = slice_get-get_or targets from none (omega arith) in
+    let at_u =
     slice_get-get_or targets (end - 1) none (omega arith) in
     let some = (are.each i t at).line.0 in
     let x = t.offset *ℤ pos k in

@@ -27,7 +27,7 @@ parts_of x y a b s small_y small_b e = elim (cases_lt x a) [
     | inl more ↦ absurd (omega (arith, mul-le (a + 1) s x s (omega arith) (omega arith)))
     | inr not_more ↦
         let x_is : x ≡ a = omega arith in
-        let row : x * s ≡ a * s = ap (λ k. k * s) x_is in
+        let row = ap (λ k. k * s) x_is in
         (x_is, omega (arith, row))
   ]
 ]
@@ -58,15 +58,15 @@ same_cell w x y a b is in_x in_y in_a in_b e =
 pub line_from : (back : Bool) (at m n : ℕ) → (back ≡ true → m ≤ at) → (back ≡ true → n ≤ at) →
     (if back then at - m else at + m) ≡ (if back then at - n else at + n) → m ≡ n
 line_from true at m n a b e =
-    let p : m ≤ at = a refl in
-    let q : n ≤ at = b refl in
+    let p = a refl in
+    let q = b refl in
     omega arith
 line_from false at m n a b e = omega arith
 
 near_line : (back : Bool) (at n : ℕ) → at < 4096 → (back ≡ true → n ≤ at) →
     (if back then at - n else at + n) < 4096 → n < 4096
 near_line true at n few a is =
-    let p : n ≤ at = a refl in
+    let p = a refl in
     omega arith
 near_line false at n few a is = omega arith
 
@@ -94,11 +94,11 @@ pub rank_at : (rays targets : List Target) (ranks : List ℕ) (n rank : ℕ) →
     IsRanked rays targets ranks → rank ≡ get_or ranks n rank
     → slice_get targets rank ≡ Some (get_or rays n (record { offset = pos 0; line = 0 }))
 rank_at rays targets ranks n rank within are at =
-    let t = get_or rays n (record { offset = pos 0; line = 0 }) in
-    let has : slice_get ranks n ≡ Some rank =
+    
+    let has =
     slice_get_read ranks (length ranks) n rank refl (omega (arith, are.size)) at in
     ap (slice_get targets) (sym (get_or_from_slice_get ranks n rank 0 has))
-    ∙ are.each n t (slice_get-get_or rays n (record { offset = pos 0; line = 0 }) within)
+    ∙ are.each n (get_or rays n (record { offset = pos 0; line = 0 })) (slice_get-get_or rays n (record { offset = pos 0; line = 0 }) within)
 
 -- `LooksFrom` stays true for a new cursor and last rank, if the cursor may be used at that rank
 pub looked_on : (cells : List (Option ℤ)) (f : Family) (targets : List Target) (k : ℕ) (old new :

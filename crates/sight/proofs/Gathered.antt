@@ -62,8 +62,7 @@ cell_passed f w flags n c rays unflagged are = record {
       | inl less ↦ are.whole m y (inr (h.0, less)) crosses in_run flagged
       | inr not ↦
           let y_is : y ≡ c = omega (arith, h.1) in
-          let here : flag_in_extent w (lead_of f m) y flags ≡ flag_in_extent w
-          (lead_of f n) c flags = ap (λ k. flag_in_extent w (lead_of f k) y flags) h.0
+          let here = ap (λ k. flag_in_extent w (lead_of f k) y flags) h.0
           ∙ ap (λ k. flag_in_extent w (lead_of f n) k flags) y_is in
           absurd (cc)
     ]
@@ -100,12 +99,12 @@ cell_taken f w flags n c rays is_f is_w crosses in_run are =
       sorted = λ u v r s le at_r at_s. elim (cases_lt v (length rays)) [
         | inl less ↦ are.sorted u v r s le (old u r (omega arith) at_r) (old v s less at_s)
         | inr not ↦
-            let last : t ≡ s = new v s not at_s in
+            let last = new v s not at_s in
             elim (cases_lt u (length rays)) [
               | inl before ↦
-                  let is = are.each u r (old u r before at_r) in
-                  omega (arith, is.1, ap (λ q. q.line) last)
-              | inr also ↦ let first : t ≡ r = new u r also at_r in
+                  
+                  omega (arith, (are.each u r (old u r before at_r)).1, ap (λ q. q.line) last)
+              | inr also ↦ let first = new u r also at_r in
                   omega (arith, ap (λ q. q.line) last, ap (λ q. q.line) first)
             ]
       ];
@@ -122,7 +121,7 @@ cell_taken f w flags n c rays is_f is_w crosses in_run are =
               | inl less ↦ kept (are.whole m y (inr (h.0, less)) crossed in_y flagged)
               | inr not ↦
                   let y_is : c ≡ y = omega (arith, h.1) in
-                  let here : t ≡ target_at f m y = ap (λ k. target_at f k c) (sym h.0)
+                  let here = ap (λ k. target_at f k c) (sym h.0)
                   ∙ ap (λ k. target_at f m k) y_is in
                   (length rays, slice_get-last rays t ∙ ap (λ q. Some q) here)
             ]

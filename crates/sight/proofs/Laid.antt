@@ -169,8 +169,7 @@ pub passed_low : (f : Family) (k y : ℕ) (t : Target) → IsFamily f → IsAtCe
 passed_low f k y t is stands later before =
     let r = t.line - k in
     let n_is : t.line ≡ r + k = omega arith in
-    let left : ((pos y -ℤ pos f.side.at) *ℤ pos k)
-    <ℤ ((pos f.side.first -ℤ pos f.side.at) *ℤ pos (r + k)) =
+    let left =
     subst (λ (n : ℕ). ((pos y -ℤ pos f.side.at) *ℤ pos k)
     <ℤ ((pos f.side.first -ℤ pos f.side.at) *ℤ pos n)) n_is (subst (λ (a : ℤ).
     (a *ℤ pos k) <ℤ ((pos f.side.first -ℤ pos f.side.at) *ℤ pos t.line)) stands.offset before) in
@@ -188,8 +187,7 @@ pub passed_high : (f : Family) (k y : ℕ) (t : Target) → IsFamily f → IsAtC
 passed_high f k y t is stands some later past =
     let r = t.line - k in
     let n_is : t.line ≡ r + k = omega arith in
-    let left : ((pos f.side.cells -ℤ pos f.side.at) *ℤ pos (r + k))
-    ≤ℤ ((pos y -ℤ pos f.side.at) *ℤ pos k) =
+    let left =
     subst (λ (n : ℕ). ((pos f.side.cells -ℤ pos f.side.at) *ℤ pos n)
     ≤ℤ ((pos y -ℤ pos f.side.at) *ℤ pos k)) n_is (subst (λ (a : ℤ).
     ((pos f.side.cells -ℤ pos f.side.at) *ℤ pos t.line) ≤ℤ (a *ℤ pos k)) stands.offset past) in

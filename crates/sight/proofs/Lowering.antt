@@ -75,7 +75,7 @@ value_lowered t os radius i d p old new less before lowered =
                 (none_below t _ radius p old before h (omega arith)) (is.hidden h below),
           )
       | inr stays ↦
-          let same : new ≡ old =
+          let same =
           lowered.2 ∙ cond-false _ (Some least) old (le-ltb least (limit_of old) stays) in
           subst (IsRiseAt t (take (i + 1) os) radius p) (sym same)
           (kept t _ (take (i + 1) os) o radius p old each before (λ h below.

@@ -53,15 +53,15 @@ hides_next cells f targets k old new some before whole raises = record {
       raised.2.clear;
   hides = λ i t y rise at stands later is.
       let raised = raises i t (slice_get_within targets i t at) at in
-      let here = raised.2.hides y rise stands (omega arith) is in
-      let was = before.hides i t y rise at stands (omega arith) is in
+      
+      
       let count : k + 1 - 1 ≡ (k - 1) + 1 = omega arith in
       let last : 1 + (k - 1) ≡ k = omega arith in
       let next : is_blocked_before cells f t.line y rise (k + 1)
       ≡ (is_blocked_before cells f t.line y rise k || line_blocks cells f t.line y rise k) =
       rw count (any_next (line_blocks cells f t.line y rise) 1 (k - 1) ∙ ap (λ n.
       is_blocked_before cells f t.line y rise k || line_blocks cells f t.line y rise n) last) in
-      rw raised.1 (here ∙ rw was (sym next));
+      rw raised.1 ((raised.2.hides y rise stands (omega arith) is) ∙ rw (before.hides i t y rise at stands (omega arith) is) (sym next));
 }
 
 -- a horizon of one ramp that hides no target hides what the lines before line 1 block: nothing

@@ -46,7 +46,7 @@ pub set_low : (targets : List ℕ) (i v : ℕ) → i < length targets → v ≤ 
     AreTargetHeights (set targets i v)
 set_low targets i v within few low k = elim (cases_eq k i) [
   | inl same ↦
-      let at : get_or (set targets i v) k 0 ≡ v = ap (λ j. get_or (set targets i v) j 0) same
+      let at = ap (λ j. get_or (set targets i v) j 0) same
           ∙ get_or-set_same targets i v 0 within in
       omega (arith, at)
   | inr other ↦ omega (arith, get_or-set_other targets i k v 0 other, low k)

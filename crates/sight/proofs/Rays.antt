@@ -32,13 +32,13 @@ pub ramp_gains : (base step offset j : ℤ) (n k m : ℕ) → j *ℤ pos k ≡ (
     → ((step *ℤ pos k) *ℤ j) +ℤ ((base -ℤ (step *ℤ offset)) *ℤ pos n) ≡ (base *ℤ pos n)
     +ℤ (pos m *ℤ step)
 ramp_gains base step offset j n k m is =
-    let out = rest_times base (step *ℤ offset) (pos n) in
-    let first : (step *ℤ pos k) *ℤ j ≡ ((offset *ℤ pos n) *ℤ step) +ℤ (pos m *ℤ step) =
+    
+    let first =
     times_between step (pos k) j ∙ turned step (j *ℤ pos k) ∙ ap (λ z. z *ℤ step) is
     ∙ sum_times (offset *ℤ pos n) (pos m) step in
-    let second : (step *ℤ offset) *ℤ pos n ≡ (offset *ℤ pos n) *ℤ step = times_between step offset
+    let second = times_between step offset
     (pos n) ∙ ap (λ z. step *ℤ z) (turned (pos n) offset) ∙ turned step (offset *ℤ pos n) in
-    omega (arith, ints, first, second, out)
+    omega (arith, ints, first, second, rest_times base (step *ℤ offset) (pos n))
   where
     turned : (a b : ℤ) → a *ℤ b ≡ b *ℤ a
     turned a b = omega (arith, ints)
@@ -67,13 +67,13 @@ shown_between near far e rise offset j n k m below few is =
     let ramp = ((step *ℤ pos k) *ℤ j) +ℤ (((near -ℤ e) -ℤ (step *ℤ offset)) *ℤ pos n) in
     let n_is : (n - k) + k ≡ n = omega arith in
     let parts : (n - m) + m ≡ n = omega arith in
-    let low : sight e (e +ℤ rise) n k ≡ (rise *ℤ pos k) +ℤ (e *ℤ pos n) =
+    let low =
     sight_rises e rise k (n - k) ∙ ap (λ z. (rise *ℤ pos k) +ℤ (e *ℤ pos z)) n_is in
     let ground = ground_gains near far (n - m) m
     ∙ ap (λ z. (near *ℤ pos z) +ℤ (step *ℤ pos m)) parts in
-    let gains = ramp_gains (near -ℤ e) step offset j n k m is in
-    let high : ((pos (n - m) *ℤ near) +ℤ (pos m *ℤ far)) ≡ ramp +ℤ (e *ℤ pos n) = ground
-    ∙ raised near e step n m ∙ ap (λ z. z +ℤ (e *ℤ pos n)) (sym gains) in
+    
+    let high = ground
+    ∙ raised near e step n m ∙ ap (λ z. z +ℤ (e *ℤ pos n)) (sym (ramp_gains (near -ℤ e) step offset j n k m is)) in
     sym (above_between near far (sight e (e +ℤ rise) n k) n m below
     ∙ lt_moved _ _ (rise *ℤ pos k) ramp (e *ℤ pos n) low high)
   where
@@ -110,7 +110,7 @@ cell_is o y c n k m offset few below is at =
     let n_is : n ≡ (n - k) + k = omega arith in
     let there =
     located o y c (n - k) k m offset (is ∙ ap (λ z. (offset *ℤ pos z) +ℤ pos m) n_is) at in
-    let t_is : toward o y n k ≡ c * n + m = there ∙ ap (λ z. c * z + m) (sym n_is) in
+    let t_is = there ∙ ap (λ z. c * z + m) (sym n_is) in
     (rw t_is (div-mul-add c n m below), rw t_is (mod-mul-add c n m below))
 
 -- if a ray leads from cell o to cell y, both below the number `cells`, and crosses a line at or

@@ -70,7 +70,7 @@ any_counted p (o ∷ os) any = step (p o) (list_any p os) (counted_cons p o os) 
     step : (b rest : Bool) {n m : ℕ} → n ≡ cond b 1 0 + m → (rest ≡ true → 0 < m) →
         (b || rest) ≡ true → 0 < n
     step true rest e more any = omega arith
-    step false rest e more any = let some = more any in omega arith
+    step false rest e more any =  omega arith
 
 none_counted : (p : Observer → Bool) (os : List Observer) → list_any p os ≡ false →
     count_by p os ≡ 0
@@ -81,7 +81,7 @@ none_counted p (o ∷ os) none =
     step : (b rest : Bool) {n m : ℕ} → n ≡ cond b 1 0 + m → (rest ≡ false → m ≡ 0) →
         (b || rest) ≡ false → n ≡ 0
     step true rest e more none = absurd (cc)
-    step false rest e more none = let zero = more none in omega arith
+    step false rest e more none =  omega arith
 
 counted_value : (h : Option ℤ) (n m : ℕ) (entry : Option ℕ) →
     MatchOption h (entry ≡ None) (λ _. entry ≡ Some m) → entry ≡ Some n → n ≡ m
@@ -117,10 +117,10 @@ zero_where_seen t os radius values seen is view p inside =
             any_counted test os at.1,
           ),
       λ counted.
-          let same = counted_value _ _ m _ count
-          counted.1 in
-          let yes : list_any test os ≡ true = true_from_ne_false _ (λ none.
-          let zero = none_counted test os none in absurd (omega (arith, zero, same, counted.2))) in
+          
+          let yes = true_from_ne_false _ (λ none.
+           absurd (omega (arith, none_counted test os none, counted_value _ _ m _ count
+          counted.1, counted.2))) in
           zero_at t os radius p _ value yes,
     )
 
@@ -143,7 +143,7 @@ pub raise_nothing : (t : Terrain) (os more : List Observer) (radius : ℕ)
     entry_at t.cols t.rows values p ≡ Some n →
     ((m : ℕ) × (entry_at t.cols t.rows lower p ≡ Some m) × (m ≤ n))
 raise_nothing t os more radius values lower is fewer p n inside e =
-    let at : IsRiseAt t os radius p (Some n) =
+    let at =
     subst (IsRiseAt t os radius p) e (is.each p inside) in
     let test : Observer → Bool = λ o. is_seen t o p n radius in
     at_most t _ radius p n _ at.0 (fewer.each p inside)
@@ -156,6 +156,6 @@ pub of_data : (t : Terrain) (os : List Observer) (radius : ℕ) (values : List (
 of_data t os radius values is p n inside e =
     let at : IsRiseAt t os radius p (Some n) =
     subst (IsRiseAt t os radius p) e (is.each p inside) in (
-      λ none. let no = unseen_nodata t os p n radius none in let yes = at.1 in cc,
+      λ none. let no = unseen_nodata t os p n radius none in  cc,
       at.0,
     )

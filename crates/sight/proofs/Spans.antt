@@ -43,8 +43,8 @@ pub past : (k : ℕ) (offset : ℤ) (t : Target) → Passes k offset t → (m : 
 past k offset t p =
     let x = t.offset *ℤ pos k in
     let y = offset *ℤ pos t.line in
-    let m = (up x + down y) - (down x + up y) in (
-      m,
+     (
+      (up x + down y) - (down x + up y),
       omega (arith, ints, p.low, p.high, sum_times offset (pos 1) (pos t.line)),
       omega (arith, ints, p.low),
     )
@@ -53,7 +53,7 @@ lead_is : (f : Family) (n k : ℕ) → IsLine f n → k ≤ n → whole_at (lead
 lead_is f n k is few =
     elim (cases_Bool f.lines.back) [
       | inl back ↦
-          let room = is.2 back in
+          
           let there = lead_down_is f.lines.at (f.lines.at - n) n k (omega arith) is.0 few in
           rw back (omega (arith, there))
       | inr ahead ↦
@@ -78,8 +78,8 @@ pub crossing_is : (cells : List (Option ℤ)) (f : Family) (k c m y : ℕ) (offs
 crossing_is cells f k c m y offset rise t stands later below is at =
     let cell = cell_is f.side.at y c _ k m offset (omega arith) below
     (at_cell_past f k m y offset t stands is) at in
-    let lead = lead_is f _ k stands.line (omega arith) in
-    rw (cell.0, cell.1, lead) refl
+    
+    rw (cell.0, cell.1, lead_is f _ k stands.line (omega arith)) refl
 
 -- before its target's line, a ray crosses line k at a cell c, or between c and the next cell. The
 -- coordinate of c along the line is below `side.cells`, the end of the side.
@@ -167,8 +167,7 @@ pub ramp_between : (f : Family) (k m : ℕ) (offset near far : ℤ) (t : Target)
     +ℤ ((far -ℤ f.eye) *ℤ pos m)
 ramp_between f k m offset near far t below is =
     let n_is : t.line ≡ (t.line - m) + m = omega arith in
-    let gains : ramp_value (ramp_of f k offset near far) t ≡ ((near -ℤ f.eye) *ℤ pos t.line)
-    +ℤ (pos m *ℤ (far -ℤ near)) =
+    let gains =
     ramp_gains (near -ℤ f.eye) (far -ℤ near) offset t.offset t.line k m is in
     gains ∙ ap (λ n. ((near -ℤ f.eye) *ℤ pos n) +ℤ (pos m *ℤ (far -ℤ near))) n_is
     ∙ mixed near far f.eye (t.line - m) m
@@ -178,13 +177,13 @@ pub ramp_is : (f : Family) (k : ℕ) (offset near far : ℤ) (t : Target) → Is
     → IsTarget t → Passes k offset t → IsRampAt (ramp_of f k offset near far) t
 ramp_is f k offset near far t is line a b is_t passes =
     let m = past k offset t passes in
-    let between = ramp_between f k _ offset near far t m.1 m.2 in
+    
     let small = between_small (near -ℤ f.eye) (far -ℤ f.eye) _
     (t.line - m.0) m.0 4096 (base_small near _ a is.eye) (base_small far _ b is.eye)
     (omega (arith, m.1, is_t.line)) in
     record {
       lines = (line.0, line.1);
-      value = rw between (omega (arith, small));
+      value = rw (ramp_between f k _ offset near far t m.1 m.2) (omega (arith, small));
     }
 
 -- let a target's ray cross line k at cell c, or between c and the next cell. If both have data, the

@@ -29,10 +29,10 @@ pub entry_of_index : (t : Terrain) (values : List (Option ℕ)) (k : ℕ) → k 
     × (entry_at t.cols t.rows values (place_of_index t.cols k) ≡ get_or values k None)
 entry_of_index t values k below =
     let p = place_of_index t.cols k in
-    let some : 0 < t.cols = positive t.cols t.rows k below in
-    let row : p.row < t.rows = div_below k _ _ some (omega (arith, below)) in
-    let col : p.col < t.cols = mod_below k _ some in
-    let at : index_of t.cols p ≡ k = div-add-mod' k t.cols in (
+    let some = positive t.cols t.rows k below in
+    let row = div_below k _ _ some (omega (arith, below)) in
+    let col = mod_below k _ some in
+    let at = div-add-mod' k t.cols in (
       (row, col),
       entry-inside _ _ values p row col ∙ ap (λ n. get_or values n None) at,
     )
@@ -45,10 +45,10 @@ entry_is : (t : Terrain) (observers : List Observer) (target radius : ℕ) (valu
     (k : ℕ) → IsViewshed t observers target radius values → k < t.cols * t.rows
     → get_or values k None ≡ value_at t observers target radius (place_of_index t.cols k)
 entry_is t observers target radius values k is below =
-    let p = place_of_index t.cols k in
+    
     let at = entry_of_index t values k below in
     sym at.1 ∙ entry_is_value _ _
-    _ (is.each p at.0)
+    _ (is.each (place_of_index t.cols k) at.0)
 
 all_are : (t : Terrain) (observers : List Observer) (target radius : ℕ) (values : List (Option ℕ)) →
     IsViewshed t observers target radius values

@@ -17,11 +17,11 @@ returns c =
       mul-le (unsigned_abs t.offset) k 4096 4096 c.requires.target.offset (omega arith),
     ) in
     let offset = back_short t.offset (omega (arith, c.requires.target.offset)) in
-    let lines = to_z_pos w32 k (omega arith) in
+    
     let line = to_z_pos w32 t.line (omega (arith, c.requires.target.line)) in
-    let product = back_short x (omega (arith, small)) in
-    let is : c.div_euclid.result ≡ int_div_euclid x (pos t.line) =
-    rw (offset, lines, line, product) at c.div_euclid.ensures in
+    
+    let is =
+    rw (offset, to_z_pos w32 k (omega arith), line, back_short x (omega (arith, small))) at c.div_euclid.ensures in
     let few = floor_small x _ c.requires.target.line.0 small in
     let back = back_short (int_div_euclid x (pos t.line)) (omega (arith, few)) in
     rw (is, back) (record {

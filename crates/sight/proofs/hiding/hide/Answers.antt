@@ -33,8 +33,8 @@ loop-number-init c =
       line = λ u t after at.
           let here = ap (λ (xs : List Target). slice_get xs u) (sym c.deref-ray-items.ensures.value)
           ∙ at in
-          let ray = (c.in_ok-rays.ensures.rays.each u t here).0 in
-          omega (arith, first.line, ray.crosses.later);
+          
+          omega (arith, first.line, ((c.in_ok-rays.ensures.rays.each u t here).0).crosses.later);
       flags = none_met false _ c.args.family c.args.extent c.deref-ray-items.result.now _;
     }
 
@@ -111,26 +111,25 @@ loop-number-preserved c =
     let targets = c.in_ok-ranked.ranked.targets.items in
     let flags = c.loop-number.flags in
     let t = get_or rays n (record { offset = pos 0; line = 0 }) in
-    let at_t : slice_get rays n ≡ Some t =
+    let at_t =
     slice_get-get_or rays n (record { offset = pos 0; line = 0 }) c.loop-number-test.true in
     let are : AreRays f w old 4097 0 rays =
     rw c.deref-ray-items.ensures.value c.in_ok-rays.ensures.rays in
     let ray = (are.each n t at_t).0 in
-    let lookup : LooksFrom cells f targets t.line c.go_to.new.self =
+    let lookup =
     rw c.deref-in-loop-number.ensures.value at c.in_ok-go_to.ensures in
     let ranked =
     rw (c.deref.ensures.value, sym c.deref-ray-items.ensures.value) at c.in_ok-ranked.ensures in
     let at_rank = rank_at rays targets _ n _
     c.loop-number-test.true ranked c.index.ensures in
     let answer = rw (to_z-of_z w64 c.rise-rise.result (search rules)) at c.hides.ensures.answer in
-    let reported : c.hides.result
-    ≡ is_blocked_before cells f t.line ray.cell (rise_at cells f height t.line ray.cell) t.line =
+    let reported =
     answer ∙
     lookup.hides.hides c.index.result.now t ray.cell c.rise-rise.result at_rank ray.stands
     (omega arith) c.rise-rise.ensures.small
     ∙ ap (λ z. is_blocked_before cells f t.line ray.cell z t.line)
     (c.rise-rise.ensures.value ray.cell ray.stands) in
-    let line : c.hides.new.self.line ≡ t.line = c.hides.ensures.line ∙ lookup.line in
+    let line = c.hides.ensures.line ∙ lookup.line in
     let met : (new : List Bool) → length new ≡ length flags → ((k : ℕ) → k ≢ flag_index w (lead_of f t.line) ray.cell →
         get_or new k false ≡ get_or flags k false) → IsFlagLeft cells f height t.line ray.cell
         (flag_in_extent w (lead_of f t.line) ray.cell old) (flag_in_extent w (lead_of f t.line) ray.cell new) →
@@ -145,11 +144,11 @@ loop-number-preserved c =
       flags = elim c.if-hides.branch [
         | then-hides w' ↦
             let i = flag_index w (lead_of f t.line) ray.cell in
-            let new = w'.flags-is ∙ w'.clear_flag.ensures ray.cell ray.stands in
+            
             let within = (extent_kept f w old flags c.loop-number.invariant.flags.size c.requires.extent).inside
                 (lead_of f t.line - w.lines.first) (ray.cell - w.side.first) (omega (arith, ray.crosses.within))
                 (omega (arith, ray.within)) in
-            rw new (met (set flags i false) (length-set flags i false)
+            rw (w'.flags-is ∙ w'.clear_flag.ensures ray.cell ray.stands) (met (set flags i false) (length-set flags i false)
                 (λ k other. get_or-set_other flags i k false false other)
                 (get_or-set_same flags i false false within
                 ∙ sym (and_right (get_or old i false) _ (ap not (sym reported ∙ w'.if-hides.true)))))

@@ -38,17 +38,17 @@ returns-in_default c = (
       let low_o = c.offset_at-low.result in
       let high_o = c.offset_at-high.result in
       let below : k ≤ last = omega arith in
-      let low_back = back_short low_o (omega (arith, c.offset_at-low.ensures.small)) in
-      let high_back = back_short high_o (omega (arith, c.offset_at-high.ensures.small)) in
+      
+      
       let ray = passes_within _ (record { offset = pos 0; line = 0 })
       _ _ k _ _ i low_o high_o t
       c.requires.targets c.requires.range.1 c.offset_at-low.ensures.passes
       (up_from _ _ _ last k c.line_of_low.ensures from below)
       c.offset_at-high.ensures.passes (up_to _ _ _ last k c.line_of_low-2.ensures from below)
       low high at in
-      let near : IsTopNear cells f k low_o high_o None = none_near cells f _
+      let near = none_near cells f _
       _ _ last k low_o high_o None are c.in_ok-last.ensures.2 from below
-      (rw (low_back, high_back) at c.in_default.ensures.top) in
+      (rw (back_short low_o (omega (arith, c.offset_at-low.ensures.small)), back_short high_o (omega (arith, c.offset_at-high.ensures.small))) at c.in_default.ensures.top) in
       absurd (hidden_by_top cells f k y low_o high_o rise None t c.requires.family stands later ray near
       blocks),
 )
@@ -62,8 +62,8 @@ returns-then-is_never_above c = (
       let low_o = c.offset_at-low.result in
       let high_o = c.offset_at-high.result in
       let below : k ≤ last = omega arith in
-      let low_back = back_short low_o (omega (arith, c.offset_at-low.ensures.small)) in
-      let high_back = back_short high_o (omega (arith, c.offset_at-high.ensures.small)) in
+      
+      
       let ray = passes_within _ (record { offset = pos 0; line = 0 })
       _ _ k _ _ i low_o high_o t
       c.requires.targets c.requires.range.1 c.offset_at-low.ensures.passes
@@ -71,20 +71,20 @@ returns-then-is_never_above c = (
       c.offset_at-high.ensures.passes (up_to _ _ _ last k c.line_of_low-2.ensures from below)
       low high at in
       let top = c.in-Some.top in
-      let near : IsTopNear cells f k low_o high_o (Some top) = none_near cells f _
+      let near = none_near cells f _
       _ _ last k low_o high_o (Some top) are c.in_ok-last.ensures.2 from below
-      (rw (low_back, high_back) at c.in-Some.ensures.top) in
+      (rw (back_short low_o (omega (arith, c.offset_at-low.ensures.small)), back_short high_o (omega (arith, c.offset_at-high.ensures.small))) at c.in-Some.ensures.top) in
       let hides = hidden_by_top cells f k y low_o high_o rise (Some top) t c.requires.family stands later
       ray near blocks in
       let is_t = c.requires.targets.each i t at in
       let top_back = to_z-of_z w64 top (height_fits top (c.in-Some.ensures.height top refl)) in
       let n = c.line_of_high.result in
-      let value = rw top_back at c.line_of_high.ensures.value in
-      let side : ((f.eye ≤ℤ top) × (n ≤ k)) ⊎ ((top <ℤ f.eye) × (k ≤ n)) = elim value [
+      
+      let side : ((f.eye ≤ℤ top) × (n ≤ k)) ⊎ ((top <ℤ f.eye) × (k ≤ n)) = elim (rw top_back at c.line_of_high.ensures.value) [
         | inl high ↦ inl (high.0, omega (arith, high.1))
         | inr low ↦ inr (low.0, omega (arith, low.1))
       ] in
-      let ground : c.constant_ramp-ground.result ≡ constant_ramp f n top =
+      let ground =
       rw top_back at c.constant_ramp-ground.ensures.ramp in
       hides_if_not_above _ _ t rise
       (c.constant_ramp-ground.ensures.at t is_t) (c.requires.ramp i t low high at)

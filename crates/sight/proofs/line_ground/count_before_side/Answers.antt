@@ -23,13 +23,13 @@ pub end_before-requires-clause-before : goal.end_before-requires-clause-before
 end_before-requires-clause-before c =
     let first = c.first_offset-first.result in
     let back = back_short first (omega (arith, c.first_offset-first.ensures.small)) in
-    let reported = rw back at c.is_before.ensures in
+    
     rw back (before_to _ _ 0 first _ c.requires.targets
     (first_is c.args.targets.now (sym c.is_empty.ensures ∙ c.if-is_empty.false))
-    (reported.0 c.if-not-is_before.false))
+    ((rw back at c.is_before.ensures).0 c.if-not-is_before.false))
 
 pub returns-clause-before : goal.returns-clause-before
 returns-clause-before c =
-    let first = c.first_offset-first.result in
-    let back = back_short first (omega (arith, c.first_offset-first.ensures.small)) in
+    
+    let back = back_short c.first_offset-first.result (omega (arith, c.first_offset-first.ensures.small)) in
     rw (back, c.first_offset-first.ensures.value) at c.end_before.ensures.before

@@ -10,13 +10,13 @@ loop-leap-preserved c =
     let l = c.loop-leap in
     let next = l.low + l.leap in
     let back = back_short c.args.offset (omega (arith, c.requires.offset)) in
-    let reported = rw back at c.is_before.ensures in
+    
     let at = slice_get-get_or targets next (record { offset = pos 0; line = 0 }) (omega arith) in
     rw back (record {
       range = (omega arith, omega arith);
       leap = (omega arith, omega arith);
       before = before_to targets _ next _ _ c.requires.targets at
-          (reported.0 c.if-not-is_before.false);
+          ((rw back at c.is_before.ensures).0 c.if-not-is_before.false);
     })
 
 pub returns-then-not-is_before-clause-before : goal.returns-then-not-is_before-clause-before

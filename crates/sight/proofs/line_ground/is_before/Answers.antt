@@ -12,9 +12,9 @@ returns c =
     let offset = c.args.offset in
     let short = back_short t.offset (omega (arith, c.requires.target.offset)) in
     let long = back t.offset (omega (arith, c.requires.target.offset)) in
-    let line = to_z_pos w64 k (omega arith) in
-    let other_short = back_short offset (omega (arith, c.requires.offset)) in
-    let other = back offset (omega (arith, c.requires.offset)) in
+    
+    
+    
     let lines = to_z_pos w64 t.line (omega (arith, c.requires.target.line)) in
     let few : unsigned_abs (t.offset *ℤ pos k) ≤ 2 ^ 24 = omega (
       arith,
@@ -30,7 +30,7 @@ returns c =
     ) in
     let one = back (t.offset *ℤ pos k) (omega (arith, few)) in
     let two = back (offset *ℤ pos t.line) (omega (arith, some)) in
-    rw (short, long, line, other_short, other, lines, one, two) (
+    rw (short, long, to_z_pos w64 k (omega arith), back_short offset (omega (arith, c.requires.offset)), back offset (omega (arith, c.requires.offset)), lines, one, two) (
       λ yes. omega (arith, ints, yes),
       λ less.
           sym (true_is_lt (t.offset *ℤ pos k) (offset *ℤ pos t.line) (omega (arith, ints, less))),

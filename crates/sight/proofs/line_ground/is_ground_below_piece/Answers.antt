@@ -30,8 +30,7 @@ returns-in_default c i t low high at y rise stands later blocks =
     passes_between _ (record { offset = pos 0; line = 0 }) _ _
     _ i _ _ t c.requires.targets
     c.requires.range.1 c.offset_at-low.ensures.passes c.offset_at-high.ensures.passes low high at in
-    let none : IsTopNear c.args.cells.now c.args.family c.args.line c.offset_at-low.result
-    c.offset_at-high.result None = rw (low_back, high_back) at c.in_default.ensures.top in
+    let none = rw (low_back, high_back) at c.in_default.ensures.top in
     absurd (none_blocks c.args.cells.now c.args.family c.args.line y c.offset_at-low.result
     c.offset_at-high.result ray.0 rise t c.requires.family stands later ray.1 ray.2 ray.3 none
     blocks)
@@ -46,7 +45,7 @@ is_never_above-requires-clause-one c i t low high at =
 
 pub returns : goal.returns
 returns c =
-    let targets = c.args.targets.now in
+    
     let f = c.args.family in
     let k = c.args.line in
     let top = c.in-Some.top in
@@ -55,18 +54,17 @@ returns c =
     back_short c.offset_at-low.result (omega (arith, c.offset_at-low.ensures.small)) in
     let high_back =
     back_short c.offset_at-high.result (omega (arith, c.offset_at-high.ensures.small)) in
-    let near : IsTopNear c.args.cells.now f k c.offset_at-low.result c.offset_at-high.result
-    (Some top) = rw (low_back, high_back) at c.in-Some.ensures.top in
+    let near = rw (low_back, high_back) at c.in-Some.ensures.top in
     let top_back = to_z-of_z w64 top (height_fits top (c.in-Some.ensures.height top refl)) in
-    let constant : c.constant_ramp.result ≡ constant_ramp f k top =
+    let constant =
     rw top_back at c.constant_ramp.ensures.ramp in
-    OnTrue_from c.is_never_above.result (IsHiddenOn c.args.cells.now f targets k ramp c.args.from
+    OnTrue_from c.is_never_above.result (IsHiddenOn c.args.cells.now f c.args.targets.now k ramp c.args.from
     c.args.piece.end) (λ yes i t low high at y rise stands later blocks.
     let ray =
     passes_between _ (record { offset = pos 0; line = 0 }) _ _
     _ i _ _ t c.requires.targets
     c.requires.range.1 c.offset_at-low.ensures.passes c.offset_at-high.ensures.passes low high at in
-    let hides : ramp_hides c.constant_ramp.result t rise ≡ true =
+    let hides =
     ap (λ r. ramp_hides r t rise) constant
     ∙ top_blocks c.args.cells.now f k y c.offset_at-low.result c.offset_at-high.result ray.0 rise
     top t c.requires.family stands later ray.1 ray.2 ray.3 near blocks in

@@ -26,15 +26,15 @@ pub loop-from-preserved-in_ok-push-2 : goal.loop-from-preserved-in_ok-push-2
 loop-from-preserved-in_ok-push-2 c =
     let l = c.loop-from in
     let highest = c.args.highest.now in
-    let piece = c.piece-piece.result in
-    let end = c.in-Some.end in
+    
+    
     let clear = c.in-Some.ensures in
-    let pushed = rw c.cleared_to.ensures at c.in_ok-push-2.ensures in
+    
     let raised = more_raised _ _ _ _
     _ _ highest _ _ _
-    l.invariant.target_count c.piece-piece.ensures.range.0 pushed l.invariant.raises
+    l.invariant.target_count c.piece-piece.ensures.range.0 (rw c.cleared_to.ensures at c.in_ok-push-2.ensures) l.invariant.raises
     (λ i t low high at. hidden_raised _ _
-    _ _ end i _ _ highest _ t c.requires.highest
+    _ _ c.in-Some.end i _ _ highest _ t c.requires.highest
     (c.piece-piece.ensures.ramp i low high) clear.0 clear.1 low high at) in
     record {
       within = omega (arith, c.piece-piece.ensures.range, c.requires.highest.whole);

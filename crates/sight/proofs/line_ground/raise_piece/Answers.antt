@@ -22,7 +22,7 @@ returns-then-span-end_offset c =
     let from = c.loop-from.from in
     let span = c.span-span.result in
     let u = get_or targets from (record { offset = pos 0; line = 0 }) in
-    let at_u : slice_get targets from ≡ Some u =
+    let at_u =
     slice_get-get_or targets from (record { offset = pos 0; line = 0 }) (omega arith) in
     let back = back_short span.offset (omega (arith, c.span-span.ensures.small)) in
     let end_back = back_short c.end_offset.result (omega (arith, c.end_offset.ensures.small)) in

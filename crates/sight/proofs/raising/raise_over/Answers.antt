@@ -28,8 +28,8 @@ loop-number-init c =
       line = λ u t after at.
           let here = ap (λ (xs : List Target). slice_get xs u) (sym c.deref-ray-items.ensures.value)
           ∙ at in
-          let ray = (c.in_ok-rays.ensures.rays.each u t here).0 in
-          omega (arith, first.line, ray.crosses.later);
+          
+          omega (arith, first.line, ((c.in_ok-rays.ensures.rays.each u t here).0).crosses.later);
       most = c.requires.targets;
       targets = none_met 0 _ c.args.family c.args.extent c.deref-ray-items.result.now _;
     }
@@ -112,23 +112,23 @@ raise-requires-clause-target c = ray_is_target _ _ _ _
 
 pub raise-requires-clause-rank : goal.raise-requires-clause-rank
 raise-requires-clause-rank c =
-    let lookup = rw c.deref-in-loop-number.ensures.value at c.in_ok-go_to.ensures in
+    
     let ranked =
     rw (c.deref.ensures.value, sym c.deref-ray-items.ensures.value) at c.in_ok-ranked.ensures in
     let at = rank_at _ _
     _ _ _
     c.loop-number-test.true ranked c.index.ensures in
-    omega (arith, lookup.hides.over.whole, slice_get_within _ c.index.result.now _ at)
+    omega (arith, (rw c.deref-in-loop-number.ensures.value at c.in_ok-go_to.ensures).hides.over.whole, slice_get_within _ c.index.result.now _ at)
 
 pub raise-requires-clause-at : goal.raise-requires-clause-at
 raise-requires-clause-at c r at_r =
-    let lookup = rw c.deref-in-loop-number.ensures.value at c.in_ok-go_to.ensures in
+    
     let ranked =
     rw (c.deref.ensures.value, sym c.deref-ray-items.ensures.value) at c.in_ok-ranked.ensures in
     let at = rank_at _ _
     _ _ _
     c.loop-number-test.true ranked c.index.ensures in
-    lookup.hides.over.each c.index.result.now _ r at at_r
+    (rw c.deref-in-loop-number.ensures.value at c.in_ok-go_to.ensures).hides.over.each c.index.result.now _ r at at_r
 
 pub loop-number-preserved : goal.loop-number-preserved
 loop-number-preserved c =
@@ -140,12 +140,12 @@ loop-number-preserved c =
     let n = c.loop-number.number in
     let targets = c.in_ok-ranked.ranked.targets.items in
     let t = get_or rays n (record { offset = pos 0; line = 0 }) in
-    let at_t : slice_get rays n ≡ Some t =
+    let at_t =
     slice_get-get_or rays n (record { offset = pos 0; line = 0 }) c.loop-number-test.true in
     let are : AreRays f w c.args.flags.now 4097 0 rays =
     rw c.deref-ray-items.ensures.value c.in_ok-rays.ensures.rays in
     let ray = (are.each n t at_t).0 in
-    let lookup : LooksFrom cells f targets t.line c.go_to.new.self =
+    let lookup =
     rw c.deref-in-loop-number.ensures.value at c.in_ok-go_to.ensures in
     let ranked =
     rw (c.deref.ensures.value, sym c.deref-ray-items.ensures.value) at c.in_ok-ranked.ensures in
@@ -157,17 +157,16 @@ loop-number-preserved c =
     _ _ c.deref-ray-items.ensures.value
     c.loop-number-test.true c.in_ok-rays.ensures.rays)
     c.flag_index-index.ensures in
-    let index : c.flag_index-index.result ≡ flag_index w (lead_of f t.line) ray.cell =
+    let index =
     c.flag_index-index.ensures ray.cell ray.stands in
-    let raised : IsRaised (lines_block_at cells f t.line ray.cell)
-    (get_or c.loop-number.targets c.flag_index-index.result 0) c.raise.result =
+    let raised =
     raised_by (λ h. hides c.go_to.new.self.sweep.highest c.index.result.now t
     (rise_at cells f h t.line ray.cell)) _
     _ _
     (λ h few. lookup.hides.hides c.index.result.now t ray.cell (rise_at cells f h t.line ray.cell)
     at_rank ray.stands (omega arith) (rise_small cells f h t.line ray.cell c.requires.heights
     c.requires.family few)) (c.raise.ensures.raised ray.cell ray.stands) in
-    let line : c.raise.new.self.line ≡ t.line = c.raise.ensures.line ∙ lookup.line in
+    let line = c.raise.ensures.line ∙ lookup.line in
     record {
       looks = looked_on cells f targets _ _ _ lookup
           c.raise.ensures.line c.raise.ensures.highest c.raise.ensures.cursor;

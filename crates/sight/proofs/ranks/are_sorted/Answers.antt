@@ -38,11 +38,11 @@ loop-index-preserved c =
     let targets = c.args.targets.now in
     let n = c.loop-index.index in
     let last = get_or targets (n - 1) (record { offset = pos 0; line = 0 }) in
-    let t = get_or targets n (record { offset = pos 0; line = 0 }) in
+    
     let at_last = slice_get-get_or targets (n - 1) (record { offset = pos 0; line = 0 })
     (omega arith) in
     let is = c.requires (n - 1) last at_last in
-    slopes_more targets n last t is.line.0 at_last
+    slopes_more targets n last (get_or targets n (record { offset = pos 0; line = 0 })) is.line.0 at_last
     (slice_get-get_or targets n (record { offset = pos 0; line = 0 }) (omega arith))
     (not_below _ _ _ (rw (back_short last.offset (omega (arith, is.offset))) at c.is_before.ensures)
     c.if-is_before.false) c.loop-index.invariant

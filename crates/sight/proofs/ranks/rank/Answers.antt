@@ -11,7 +11,7 @@ loop-rank-preserved c =
     let number = c.index-number.result in
     let t = get_or rays number (record { offset = pos 0; line = 0 }) in
     let at = slice_get-get_or rays number (record { offset = pos 0; line = 0 }) (omega arith) in
-    let ok : is_ok c.push.result ≡ true = sym c.in_ok-map_err.ensures.variant in
+    let ok = sym c.in_ok-map_err.ensures.variant in
     rw (rw ok at c.push.ensures.items) (ranks_more _ number rays
     _ _ t (c.requires.each number t at) at
     c.loop-rank.invariant)

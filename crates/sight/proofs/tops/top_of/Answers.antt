@@ -5,7 +5,7 @@ use Rattle.sight.proofs.tops.top_of.Goals as goal
 
 pub loop-index-preserved : goal.loop-index-preserved
 loop-index-preserved c =
-    let cells = c.args.cells.now in
+    
     let index = c.loop-index.index in
     record {
       height = λ h is. elim c.greater_height-top.ensures.one [
@@ -18,7 +18,7 @@ loop-index-preserved c =
         | inr last ↦
             let same : index ≡ i = omega arith in
             c.greater_height-top.ensures.raised h (c.height_at.ensures
-            ∙ ap (λ n. get_or cells n None) same ∙ is)
+            ∙ ap (λ n. get_or c.args.cells.now n None) same ∙ is)
       ];
     }
 

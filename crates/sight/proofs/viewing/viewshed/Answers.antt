@@ -9,7 +9,7 @@ returns-in-Some-clause-refusals g c =
     let t = c.args.grid.now.terrain in
     let os = c.args.observers.now in
     let fault = observers_fault t os c.args.target_height c.args.radius in
-    let reported : fault ≡ Some c.in-Some.fault = rw c.first_fault.ensures at c.in-Some.is in
+    let reported = rw c.first_fault.ensures at c.in-Some.is in
     refuses fault _ _ (λ job.
     not_jobs job t os c.args.target_height c.args.radius) reported
 

@@ -25,12 +25,12 @@ loop-cell-preserved c =
     let P : List Target → Type 0 = λ rays. AreRays f extent flags n (cell + 1) rays in
     elim c.if-flags-row.branch [
       | then-flags-row+in_ok-push w ↦
-          let items : c.if-flags-row.rays.items ≡ old ++ target_at f n cell ∷ [] = ap (λ v. v.items)
+          let items = ap (λ v. v.items)
           w.rays-is ∙ w.in_ok-push.ensures.items ∙ ap (λ t. old ++ t ∷ []) w.target_at.ensures in
           subst P (sym items) (cell_taken f extent flags n cell old c.requires.family
           c.requires.extent crosses (omega arith, omega arith) c.loop-cell.invariant)
       | else-flags-row w ↦
-          let unflagged : flag_in_extent extent (lead_of f n) cell flags ≡ false =
+          let unflagged =
           ap (λ x. get_or flags ((x - extent.lines.first) * extent.lines.stride + (cell
           - extent.side.first) * extent.side.stride) false) (sym lead) ∙ w.if-flags-row.false in
           subst P (ap (λ v. v.items) (sym w.rays-is))

@@ -21,9 +21,9 @@ ramp-requires-clause-heights c = (
 pub returns-clause-inside : goal.returns-clause-inside
 returns-clause-inside c =
     let offset = c.args.offset in
-    let back = back_short offset (omega (arith, c.requires.offset)) in
-    let cell : IsCell c.args.self c.args.line offset c.in-Some.index =
-    rw back at c.in-Some.ensures in
+    
+    let cell =
+    rw (back_short offset (omega (arith, c.requires.offset))) at c.in-Some.ensures in
     OnTrue_from c.eq.result (offset ≤ℤ pos 4096) (λ yes.
     omega (arith, ints, cell.1, cell.2, c.requires.family))
 
@@ -57,16 +57,16 @@ returns-clause-shows c =
     let near = c.in-Some-height_at.near in
     let far = c.in-Some-height_at-2.far in
     let back = back_short offset (omega (arith, c.requires.offset)) in
-    let near_back = to_z-of_z w64 near (search rules) in
-    let far_back = to_z-of_z w64 far (search rules) in
-    let cell : IsCell f k offset c.in-Some.index = rw back at c.in-Some.ensures in
-    let here : get_or cells (near_index f k cell.0) None ≡ Some near =
+    
+    
+    let cell = rw back at c.in-Some.ensures in
+    let here =
     ap (λ n. get_or cells n None) (sym cell.3) ∙ sym c.height_at.ensures ∙ c.in-Some-height_at.is in
-    let next : get_or cells (near_index f k cell.0 + f.side.stride) None ≡ Some far =
+    let next =
     ap (λ n. get_or cells (n + f.side.stride) None) (sym cell.3) ∙ sym c.height_at-2.ensures
     ∙ c.in-Some-height_at-2.is in
-    let ramp : c.ramp.result ≡ ramp_of f k offset near far =
-    rw (back, near_back, far_back) at c.ramp.ensures.ramp in
+    let ramp =
+    rw (back, to_z-of_z w64 near (search rules), to_z-of_z w64 far (search rules)) at c.ramp.ensures.ramp in
     let at = rw back at c.ramp.ensures.at in
     OnTrue_from _ _ (λ yes.
     let same = same_ramp c.ramp.result c.args.ramp (sym c.eq.ensures ∙ yes) in

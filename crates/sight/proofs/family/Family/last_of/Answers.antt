@@ -13,13 +13,13 @@ loop-self-preserved c =
     let l = c.loop-self in
     let last = to_z w32 l.last-bits in
     let first_back = back_short c.args.first (omega (arith, c.requires.first)) in
-    let range : (c.args.first ≤ℤ last) × (last ≤ℤ pos 4096) = rw first_back at l.invariant.range in
+    let range = rw first_back at l.invariant.range in
     let next =
     back_short (last +ℤ pos 1) (next_small _ last c.requires.first range.0 range.1) in
-    let inside = rw next at c.loop-self-test.ensures.inside in
+    
     let shows = rw next at c.loop-self-test.ensures.shows in
     rw next (record {
-      range = (rw first_back (omega (arith, ints, range.0)), inside);
+      range = (rw first_back (omega (arith, ints, range.0)), rw next at c.loop-self-test.ensures.inside);
       shows = λ b t past below is passes. by_lt_z last b
           (λ more.
           let same : b ≡ last +ℤ pos 1 = omega (arith, ints, more, below) in

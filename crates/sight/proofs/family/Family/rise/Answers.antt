@@ -29,7 +29,6 @@ returns-clause-value c y stands =
     let ground = c.unwrap_or-ground.result in
     let small : IsHeight ground = rw c.unwrap_or-ground.ensures
     (ground_is_height _ c.height_of.ensures.height) in
-    let is : ground ≡ unwrap_or (line_height c.args.cells.now c.args.self c.args.target.line y)
-    (pos 0) = c.unwrap_or-ground.ensures
+    let is = c.unwrap_or-ground.ensures
     ∙ ap (λ h. unwrap_or h (pos 0)) (c.height_of.ensures.value y stands) in
     omega (arith, ints, is, small, c.requires.family.eye)

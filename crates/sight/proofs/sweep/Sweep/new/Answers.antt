@@ -3,6 +3,6 @@ use Rattle.sight.proofs.sweep.Sweep.new.Goals as goal
 
 pub returns : goal.returns
 returns c =
-    let pushed = rw c.new-highest.ensures at c.in_ok-push.ensures in
-    none_hides _ _ _ c.requires pushed
+    
+    none_hides _ _ _ c.requires (rw c.new-highest.ensures at c.in_ok-push.ensures)
     c.nothing.ensures.below c.nothing.ensures.at c.nothing.ensures.clear

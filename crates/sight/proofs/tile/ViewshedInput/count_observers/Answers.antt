@@ -62,7 +62,7 @@ pub returns : goal.returns
 returns g c =
     let self = c.args.self.now in
     let b = c.args.bounds in
-    let all : take c.loop-observer.observer-index self.observers.now ≡ self.observers.now =
+    let all =
     take_all c.loop-observer.observer-index self.observers.now (omega arith) in
     subst (λ (os : List Observer).
     IsMadeUpTo b (HasValue self.grid.now.terrain os self.target_height self.radius)

@@ -54,8 +54,7 @@ returns c =
     omega (arith, c.requires.inside.cols_inside, self.cut) in
     let mid = c.hide_on_both_sides.new.flags in
     let new = c.hide_on_both_sides-2.new.flags in
-    let open_columns : AreOpen t.cells (family_of (columns_at b p) (rows_at t b p) e)
-    (extent_of (columns_at b p) (rows_at t b p)) self.target_height c.args.flags.now mid =
+    let open_columns =
     rw (c.cells-cells.ensures.value, back, axes.columns, axes.rows, axes.eye)
     at c.in_ok-hide_on_both_sides.ensures in
     let open_rows = rw (c.cells-cells.ensures.value, back, axes.columns, axes.rows, axes.eye)

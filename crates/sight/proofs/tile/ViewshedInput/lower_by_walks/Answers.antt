@@ -10,10 +10,10 @@ use Rattle.sight.proofs.tile.ViewshedInput.lower_by_walks.Goals as goal
 pub lowered-requires-clause-value : goal.lowered-requires-clause-value
 lowered-requires-clause-value c =
     let i = c.loop-index.index in
-    let values = c.loop-index.values in
-    let is : c.index-values-index.result ≡ get_or c.args.values.now i None =
+    
+    let is =
     c.index-values-index.is
-    ∙ get_or_default values i c.index-values-index.result None (omega arith)
+    ∙ get_or_default c.loop-index.values i c.index-values-index.result None (omega arith)
     ∙ c.loop-index.invariant.left i (omega arith) in
     subst (λ (v : Option ℕ). limit_of v ≤ highest_eye + 1) (sym is) (c.requires.low i)
 
@@ -27,7 +27,7 @@ loop-index-preserved c =
     let values = c.loop-index.values in
     let new = c.lowered.result in
     let room : i < length values = omega arith in
-    let is : c.index-values-index.result ≡ get_or old i None =
+    let is =
     c.index-values-index.is ∙ get_or_default values i c.index-values-index.result None room
     ∙ c.loop-index.invariant.left i (omega arith) in
     let at_place = subst (λ (p : Place). IsLowered t o self.radius p c.index-values-index.result new)
@@ -37,7 +37,7 @@ loop-index-preserved c =
     record {
       done = λ k below. elim (cases_eq k i) [
         | inl e ↦
-            let set_is : new ≡ get_or (set values i new) i None =
+            let set_is =
             sym (get_or-set_same values i new None room) in
             subst (λ (j : ℕ). IsLowered t o self.radius (place_in c.args.bounds j)
             (get_or old j None) (get_or (set values i new) j None)) (sym e)

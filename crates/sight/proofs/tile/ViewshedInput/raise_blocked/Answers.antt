@@ -58,8 +58,7 @@ returns c =
     let old = c.args.targets.now in
     let mid = c.raise_on_both_sides.new.targets in
     let new = c.raise_on_both_sides-2.new.targets in
-    let clear_columns : AreClear t.cells (family_of (columns_at b p) (rows_at t b p) e)
-    (extent_of (columns_at b p) (rows_at t b p)) flags old mid =
+    let clear_columns =
     rw (c.cells-cells.ensures.value, back, axes.columns, axes.rows, axes.eye)
     at c.in_ok-raise_on_both_sides.ensures in
     let clear_rows = rw (c.cells-cells.ensures.value, back, axes.columns, axes.rows, axes.eye)

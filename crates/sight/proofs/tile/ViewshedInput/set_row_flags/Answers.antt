@@ -8,8 +8,8 @@ use Rattle.sight.proofs.tile.ViewshedInput.set_row_flags.Goals as goal
 
 pub bounds-flags-first : goal.bounds-flags-first
 bounds-flags-first c =
-    let b = c.args.bounds in
-    let below = index_in_below b (make_place c.args.row c.loop-col.col)
+    
+    let below = index_in_below c.args.bounds (make_place c.args.row c.loop-col.col)
     (omega (arith, c.requires.row), omega (arith, c.requires.row), omega arith, omega arith) in
     omega (arith, below, c.loop-col.invariant.size)
 

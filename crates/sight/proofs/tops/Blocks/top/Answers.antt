@@ -41,8 +41,8 @@ returns c =
     rw c.top_cell.ensures (record {
       height = c.loop-row.invariant.height;
       above = λ p h row col is.
-          let inside = inside_from_entry t.cols t.rows t.cells p h is in
-          let in_rows = in_block _ p.row _ self.sized.0 row in
+          
+          
           c.loop-row.invariant.above p h row
-          (omega (arith, in_rows, inside, c.loop-row-test.false, c.min-row-end.ensures)) col is;
+          (omega (arith, in_block _ p.row _ self.sized.0 row, inside_from_entry t.cols t.rows t.cells p h is, c.loop-row-test.false, c.min-row-end.ensures)) col is;
     })

@@ -23,19 +23,19 @@ returns c =
     let t = ground_of tiles.blocks.now.cols tiles.blocks.now.rows tiles.blocks.now.cells.now in
     let tile = c.tile_of-tile.result in
     let list = c.index-self-tile.result in
-    let listed : IsTileTops tiles.tiling.now t tile list.items =
+    let listed =
     subst (λ (v : Vec (Option ℤ) Global). IsTileTops tiles.tiling.now t tile v.items)
     (sym c.index-self-tile.is) (c.args.self.now.listed tile list c.tile_of-tile.ensures.below) in
-    let begun = c.blocks_begun-begun.ensures ∙ ap blocks_begun c.bounds.ensures.value in
+    
     let made = subst (λ (b : Bounds). IsMadeUpTo b (IsBlockTop 16 t) (b.rows * b.cols) list.items)
-    (sym begun) listed in
+    (sym (c.blocks_begun-begun.ensures ∙ ap blocks_begun c.bounds.ensures.value)) listed in
     let first = make_place (c.args.block.row * 16) (c.args.block.col * 16) in
     let within : IsWithin tiles.tiling.now first = search rules in
     let inside : IsInBounds c.blocks_begun-begun.result c.args.block =
     rw c.blocks_begun-begun.ensures (begins_there _ c.args.block
     ((c.bounds.ensures.places first).0 (within, sym c.tile_of-tile.ensures.number))) in
     let index = c.index_of.result in
-    let at : slice_get list.items index ≡ Some c.index.result.now =
+    let at =
     slice_get_read list.items (length list.items) index _ refl
     (omega (arith, c.index_of.ensures.below, made.size)) (c.index.ensures
     ∙ ap (λ (v : Vec (Option ℤ) Global). get_or v.items index c.index.result.now)
