@@ -82,13 +82,13 @@ row_step t p q e f k inside_p inside_q low high =
 
 pub column_blocks-walk : (t : Terrain) (p q : Place) (e f : ℤ) → IsInside t p → IsInside t q →
     column_blocks t p q e f ≡ walk_blocks t.cells (over_columns t p q e f)
-column_blocks-walk t p q e f a b = let n = abs_diff p.col q.col in
-    any_same _ _ 1 (n - 1) (λ k low high. column_step t p q e f k a b low high)
+column_blocks-walk t p q e f a b = 
+    any_same _ _ 1 ((abs_diff p.col q.col) - 1) (λ k low high. column_step t p q e f k a b low high)
 
 pub row_blocks-walk : (t : Terrain) (p q : Place) (e f : ℤ) → IsInside t p → IsInside t q →
     row_blocks t p q e f ≡ walk_blocks t.cells (over_rows t p q e f)
-row_blocks-walk t p q e f a b = let n = abs_diff p.row q.row in
-    any_same _ _ 1 (n - 1) (λ k low high. row_step t p q e f k a b low high)
+row_blocks-walk t p q e f a b = 
+    any_same _ _ 1 ((abs_diff p.row q.row) - 1) (λ k low high. row_step t p q e f k a b low high)
 
 pub columns_in_list : (t : Terrain) (p q : Place) → length t.cells ≡ t.cols * t.rows →
     IsInside t p → IsInside t q → CoversLine t.cells (columns_of p q) (rows_of t p q)

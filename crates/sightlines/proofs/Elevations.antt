@@ -68,8 +68,8 @@ rise_fits e f p q = omega (arith, ints)
 
 pub more_fits : (e f : ℤ) (n k : ℕ) → IsElevation e → IsElevation f → k < n → n ≤ 4096 →
     FitsSigned w64 (sight e f n k +ℤ (f -ℤ e))
-more_fits e f n k p q h l = let is = sight_bounded e f n (k + 1) p q (omega arith) l in
-    fits _ (rw (sight_more e f n k h) at is)
+more_fits e f n k p q h l = 
+    fits _ (rw (sight_more e f n k h) at (sight_bounded e f n (k + 1) p q (omega arith) l))
 
 -- the sight at the next step, as the walk computes it, fits in 64 bits and is exact
 pub next_elevation : (e f : ℤ) (n k bits : ℕ) → IsElevation e → IsElevation f → k < n → n ≤ 4096 →
@@ -100,10 +100,10 @@ pub rise_is : (e f : ℤ) (m : ℕ) → IsElevation e → IsElevation f → m < 
     -ℤ to_z w64 (of_z w64 (to_z w64 (of_z w64 e) *ℤ to_z w64 m)) in FitsSigned w64 rise
     × (to_z w64 (of_z w64 rise) ≡ (f *ℤ pos m) -ℤ (e *ℤ pos m))
 rise_is e f m p q h =
-    let from = scaled_as_reckoned e m p (omega arith) in
-    let to = scaled_as_reckoned f m q (omega arith) in
+    
+    
     let fit = leap_fits e f m p q h in
-    rw (from.1, to.1) (fit, to_z-of_z w64 ((f *ℤ pos m) -ℤ (e *ℤ pos m)) fit)
+    rw ((scaled_as_reckoned e m p (omega arith)).1, (scaled_as_reckoned f m q (omega arith)).1) (fit, to_z-of_z w64 ((f *ℤ pos m) -ℤ (e *ℤ pos m)) fit)
 
 -- the sight after a leap of m steps, as the code computes it, fits in 64 bits and is exact
 pub leapt_elevation : (e f z rise : ℤ) (n k m : ℕ) → IsElevation e → IsElevation f → k + m ≤ n →

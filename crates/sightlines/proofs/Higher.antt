@@ -43,7 +43,7 @@ both_clear : (a b c d : Bool) → (a ≡ false → c ≡ false) → (b ≡ false
     (not a && not b) ≡ true → (not c && not d) ≡ true
 both_clear true b c d p q clear = absurd (cc)
 both_clear false true c d p q clear = absurd (cc)
-both_clear false false c d p q clear = let x = p refl in let y = q refl in rw (x, y) refl
+both_clear false false c d p q clear =   rw (p refl, q refl) refl
 
 last_of_four : (a b c d e : Bool) → (d ≡ true → e ≡ true) → (a && b && c && d) ≡ true →
     (a && b && c && e) ≡ true

@@ -67,7 +67,7 @@ pub any_same : (p q : ℕ → Bool) (a n : ℕ) → ((k : ℕ) → a ≤ k → k
     list_any p (range_with_len a n) ≡ list_any q (range_with_len a n)
 any_same p q a zero same = refl
 any_same p q a (suc n) same =
-    let first : p a ≡ q a = same a (omega arith) (omega arith) in
-    let rest : list_any p (range_with_len (a + 1) n) ≡ list_any q (range_with_len (a + 1) n) =
+    
+    let rest =
     any_same p q (a + 1) n (λ k low high. same k (omega arith) (omega arith)) in
-    rw (first, rest) refl
+    rw (same a (omega arith) (omega arith), rest) refl

@@ -22,11 +22,11 @@ seen_is t o q target radius from to a b from_is to_is near =
     let p = place_of o in
     let e = from +ℤ pos o.eye in
     let f = to +ℤ pos target in
-    let cs = column_blocks-walk t p q e f a b in
-    let rs = row_blocks-walk t p q e f a b in
-    let back_columns = walk_back t.cells (over_columns t p q e f) in
-    let back_rows = walk_back t.cells (over_rows t p q e f) in
-    rw (from_is, to_is, near, cs, rs, back_columns, back_rows) refl
+    
+    
+    
+    
+    rw (from_is, to_is, near, column_blocks-walk t p q e f a b, row_blocks-walk t p q e f a b, walk_back t.cells (over_columns t p q e f), walk_back t.cells (over_rows t p q e f)) refl
 
 out_of_reach : (a b c : Bool) → (a && b && false && c) ≡ false
 out_of_reach false b c = refl
@@ -50,10 +50,10 @@ small : (t : Terrain) (p q : Place) (e f : ℤ) → IsTerrain t → IsInside t p
 small t p q e f is a b e_elevation f_elevation = (
   record {
     ends = (
-      omega (arith, is.few_cols),
-      omega (arith, is.few_cols),
-      omega (arith, is.few_rows),
-      omega (arith, is.few_rows),
+      omega arith,
+      omega arith,
+      omega arith,
+      omega arith,
     );
     strides = (omega arith, is.few_cols);
     from_elevation = f_elevation;
@@ -61,10 +61,10 @@ small t p q e f is a b e_elevation f_elevation = (
   },
   record {
     ends = (
-      omega (arith, is.few_rows),
-      omega (arith, is.few_rows),
-      omega (arith, is.few_cols),
-      omega (arith, is.few_cols),
+      omega arith,
+      omega arith,
+      omega arith,
+      omega arith,
     );
     strides = (is.few_cols, omega arith);
     from_elevation = f_elevation;
@@ -82,9 +82,9 @@ pub lines_are : (t : Terrain) (o : Observer) (q : Place) (target radius : ℕ) (
     (record { columns = over_columns t q p f e; rows = over_rows t q p f e })
 lines_are t o q target radius from to is a b from_is to_is near e_elevation f_elevation =
     let p = place_of o in
-    let e = from +ℤ pos o.eye in
-    let f = to +ℤ pos target in
-    let are_small = small t p q e f is a b e_elevation f_elevation in
+    
+    
+    let are_small = small t p q (from +ℤ pos o.eye) (to +ℤ pos target) is a b e_elevation f_elevation in
     record {
       columns = rw (from_is, to_is) refl;
       rows = rw (from_is, to_is) refl;

@@ -16,9 +16,9 @@ use Rattle.sightlines.proofs.Toward.{toward_le, step_stays, step_passes, lead_wh
 lead_step : (a : Axis) (n k ahead behind part : ℕ) → n ≡ abs_diff a.from a.to → 0 < n → k < n →
     Gains a n 1 ahead behind part → whole_at a n (k + 1) + behind ≡ whole_at a n k + ahead
 lead_step a n k ahead behind part e some h gains =
-    let none : part ≡ 0 =
-    lead_part a.from a.to n ahead behind part e (omega (arith, gains.sum)) gains.below in
-    let whole : toward a.from a.to n k % n ≡ 0 = lead_whole a.from a.to n k e some (omega arith) in
+    let none =
+    lead_part a.from a.to n ahead behind part e (omega arith) gains.below in
+    
     (step_stays a.from a.to n k 1 ahead behind part (omega arith) gains.sum (omega arith)).0
 
 -- if coordinates move by la - lb and sa - sb + one, the index moves by these times the strides
@@ -31,28 +31,26 @@ pub index_stays : (lead side : Axis) (n k : ℕ) (pace : Pace) → n ≡ abs_dif
     → (index_at lead side n (k + 1) + pace.behind ≡ index_at lead side n k + pace.ahead)
     × (part_at side n (k + 1) ≡ part_at side n k + pace.part)
 index_stays lead side n k pace e h p below =
-    let one =
-    lead_step lead n k _ _ _ e (omega arith) h p.lead_gains in
+    
     let two = step_stays side.from side.to n k 1 p.side_ahead p.side_behind pace.part
     (omega arith) p.side_gains.sum below in
     let both = moved (whole_at lead n k) (whole_at side n k)
     lead.stride side.stride p.lead_ahead p.lead_behind p.side_ahead p.side_behind
-    (whole_at lead n (k + 1)) (whole_at side n (k + 1)) 0 one (omega (arith, two.0)) in
-    (omega (arith, both, p.ahead, p.behind), two.1)
+    (whole_at lead n (k + 1)) (whole_at side n (k + 1)) 0 (lead_step lead n k _ _ _ e (omega arith) h p.lead_gains) (omega arith) in
+    (omega (arith, both), two.1)
 
 pub index_passes : (lead side : Axis) (n k : ℕ) (pace : Pace) → n ≡ abs_diff lead.from lead.to →
     k < n → IsPace lead side n pace → n ≤ part_at side n k + pace.part
     → (index_at lead side n (k + 1) + pace.behind ≡ index_at lead side n k + pace.ahead
     + pace.beside) × (part_at side n (k + 1) + n ≡ part_at side n k + pace.part)
 index_passes lead side n k pace e h p passed =
-    let one =
-    lead_step lead n k _ _ _ e (omega arith) h p.lead_gains in
+    
     let two = step_passes side.from side.to n k 1 p.side_ahead p.side_behind _ (omega arith)
     (omega arith) p.side_gains.sum p.side_gains.below passed in
     let both = moved (whole_at lead n k) (whole_at side n k)
     lead.stride side.stride p.lead_ahead p.lead_behind p.side_ahead p.side_behind
-    (whole_at lead n (k + 1)) (whole_at side n (k + 1)) 1 one two.0 in
-    (omega (arith, both, p.ahead, p.behind, p.beside), two.1)
+    (whole_at lead n (k + 1)) (whole_at side n (k + 1)) 1 (lead_step lead n k _ _ _ e (omega arith) h p.lead_gains) two.0 in
+    (omega (arith, both), two.1)
 
 pub whole_le : (a : Axis) (n k : ℕ) → 0 < n → k ≤ n → whole_at a n k ≤ max a.from a.to
 whole_le a n k some h =
@@ -117,10 +115,9 @@ room lead side n k pace some h p ends strides =
     let b = mul-le (whole_at side n k) side.stride 4096 4096
     (omega (arith, whole_le side n k some h)) strides.1 in
     let c =
-    mul-le p.lead_ahead lead.stride 4096 4096 (omega (arith, p.lead_gains.few_ahead)) strides.0 in
-    let d =
-    mul-le p.side_ahead side.stride 4096 4096 (omega (arith, p.side_gains.few_ahead)) strides.1 in
-    omega (arith, a, b, c, d, p.ahead, p.beside)
+    mul-le p.lead_ahead lead.stride 4096 4096 (omega arith) strides.0 in
+    
+    omega (arith, a, b, c, mul-le p.side_ahead side.stride 4096 4096 (omega arith) strides.1)
 
 -- the index and the part that `Pace::next` returns are those of step k + 1
 pub next_is : (lead side : Axis) (n k : ℕ) (pace : Pace) (index part : ℕ) →
@@ -134,10 +131,10 @@ next_is lead side n k pace index part e h p stays passes =
     elim (cases_lt (part_at side n k + pace.part) n) [
       | inl low ↦
           let is = index_stays lead side n k pace e h p low in
-          let reported = stays (omega (arith, low, p.steps)) in
+          let reported = stays (omega (arith, low)) in
           (omega (arith, is, reported), omega (arith, is, reported))
       | inr high ↦
           let is = index_passes lead side n k pace e h p high in
-          let reported = passes (omega (arith, high, p.steps)) in
-          (omega (arith, is, reported), omega (arith, is, reported, p.steps))
+          let reported = passes (omega (arith, high)) in
+          (omega (arith, is, reported), omega (arith, is, reported))
     ]

@@ -48,7 +48,7 @@ pub step_stays : (a b n k m ahead behind part : ℕ) → k + m ≤ n →
 step_stays a b n k m ahead behind part h gains below =
     let t = toward a b n k in
     let e : toward a b n (k + m) + behind * n ≡ (t / n + ahead) * n + (t % n + part) =
-    omega (arith, toward_more a b n k m h, div-add-mod' t n) in
+    omega (arith, toward_more a b n k m h) in
     quotient_is (toward a b n (k + m)) _ n _ behind e below
 
 pub step_passes : (a b n k m ahead behind part : ℕ) → k + m ≤ n → 0 < n →
@@ -59,10 +59,10 @@ step_passes a b n k m ahead behind part h some gains small passed =
     let t = toward a b n k in
     let low : t % n < n = mod_below t n some in
     let e : toward a b n (k + m) + behind * n ≡ (t / n + ahead + 1) * n + (t % n + part - n) =
-    omega (arith, toward_more a b n k m h, div-add-mod' t n) in
+    omega (arith, toward_more a b n k m h) in
     let both = quotient_is (toward a b n (k + m)) (t / n + ahead + 1) n (t % n
     + part - n) behind e (omega arith) in
-    (both.0, omega (arith, both.1))
+    (both.0, omega arith)
 
 up_by : (a k r : ℕ) → a * r + (a + (r + k)) * k ≡ (a + k) * (r + k) + 0
 up_by a k r = omega arith
@@ -100,8 +100,8 @@ pub onward_is : (a b n k : ℕ) → n ≡ abs_diff a b → 0 < n → k ≤ n →
 onward_is a b n k e some h =
     elim (cases_lt a b) [
       | inl low ↦ rw (lt-ltb a b low) (sym (lead_up_is a b n k (omega arith) some h))
-      | inr high ↦ let there = lead_down_is a b n k (omega arith) some h in
-          rw (le-ltb a b high) (omega (arith, there))
+      | inr high ↦ 
+          rw (le-ltb a b high) (omega (arith, lead_down_is a b n k (omega arith) some h))
     ]
 
 pub lead_part : (a b n ahead behind part : ℕ) → n ≡ abs_diff a b →

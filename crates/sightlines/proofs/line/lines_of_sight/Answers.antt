@@ -34,17 +34,17 @@ returns c =
     rw (to_z-of_z w64 eye (search rules)) at c.elevation-eye_elevation.ensures.value in
     let target_elevation =
     rw (to_z-of_z w64 ground (search rules)) at c.elevation-target_elevation.ensures.value in
-    let eye_back = to_z-of_z w64 c.elevation-eye_elevation.result (search rules) in
-    let target_back = to_z-of_z w64 c.elevation-target_elevation.result (search rules) in
-    let near : is_near (place_of o) q c.args.radius ≡ true = sym c.is_in_reach.ensures
+    
+    
+    let near = sym c.is_in_reach.ensures
     ∙ c.if-not-is_in_reach.false in
-    let eye_is : height_at t (place_of o) ≡ Some eye = sym c.at.ensures ∙ c.in_ok-eye_ground.was in
-    let ground_is : height_at t q ≡ Some ground = sym c.at-2.ensures ∙ c.in_ok-target_ground.was in
-    let e_elevation : IsElevation (eye +ℤ pos o.eye) =
+    let eye_is = sym c.at.ensures ∙ c.in_ok-eye_ground.was in
+    let ground_is = sym c.at-2.ensures ∙ c.in_ok-target_ground.was in
+    let e_elevation =
     rw eye_elevation at c.elevation-eye_elevation.ensures.small in
-    let f_elevation : IsElevation (ground +ℤ pos c.args.target_height) =
+    let f_elevation =
     rw target_elevation at c.elevation-target_elevation.ensures.small in
-    rw (c.cols-stride.ensures.value, eye_back, target_back, eye_elevation, target_elevation)
+    rw (c.cols-stride.ensures.value, to_z-of_z w64 c.elevation-eye_elevation.result (search rules), to_z-of_z w64 c.elevation-target_elevation.result (search rules), eye_elevation, target_elevation)
     (lines_are t o q c.args.target_height c.args.radius eye ground
     c.cols-stride.ensures.lawful.terrain c.requires.observer c.requires.target eye_is ground_is near
     e_elevation f_elevation)

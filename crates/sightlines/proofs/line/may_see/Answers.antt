@@ -8,15 +8,15 @@ pub returns-then-is_blocked_from : goal.returns-then-is_blocked_from
 returns-then-is_blocked_from c =
     let t = c.args.grid.now.terrain in
     let lines = c.in-Some.lines in
-    let are = c.in-Some.ensures in
-    hidden_by_columns _ (walk_blocks t.cells lines.columns) (walk_blocks t.cells lines.rows) are.seen
+    
+    hidden_by_columns _ (walk_blocks t.cells lines.columns) (walk_blocks t.cells lines.rows) c.in-Some.ensures.seen
     (rw c.cells-cells.ensures.value at (c.is_blocked_from.ensures c.if-is_blocked_from.true))
 
 pub returns : goal.returns
 returns c =
     let t = c.args.grid.now.terrain in
-    let o = c.args.observer.now in
-    let q = c.args.target in
+    
+    
     let lines = c.in-Some.lines in
     let are = c.in-Some.ensures in
     seen_if_open _

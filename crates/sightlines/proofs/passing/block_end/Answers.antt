@@ -18,7 +18,7 @@ returns-clause-same c k low high =
     let x = whole_at line.lead n c.args.step in
     let y = whole_at line.lead n k in
     let size = c.args.size in
-    let at : c.lead_at.result % size ≡ x % size = ap (λ z. z % size) c.lead_at.ensures in
+    let at = ap (λ z. z % size) c.lead_at.ensures in
     let parts = div-add-mod' x size in
     let below = mod_below x size (omega arith) in
     elim c.if-line.branch [
@@ -28,12 +28,12 @@ returns-clause-same c k low high =
           let there =
           lead_up_is line.lead.from line.lead.to n k (omega arith) (omega arith) (omega arith) in
           same_block x y size (omega arith) (omega (arith, here, there, parts))
-          (omega (arith, here, there, at, parts, below, w.left-is))
+          (omega (arith, here, there, at, parts, below))
       | else-line w ↦
           let here = lead_down_is line.lead.from line.lead.to n c.args.step (omega arith)
           (omega arith) (omega arith) in
           let there =
           lead_down_is line.lead.from line.lead.to n k (omega arith) (omega arith) (omega arith) in
-          same_block x y size (omega arith) (omega (arith, here, there, at, parts, w.left-is))
+          same_block x y size (omega arith) (omega (arith, here, there, at, parts))
           (omega (arith, here, there, parts, below))
     ]

@@ -8,11 +8,11 @@ use Rattle.sightlines.proofs.rise.least_height.Goals as goal
 
 pub loop-height-init : goal.loop-height-init
 loop-height-init c =
-    let raised = c.raised-height.result in
+    
     record {
       most = c.raised-height.ensures.range.1;
       hidden = λ h below. hidden_lower c.args.grid.now.terrain c.args.observer.now c.args.target h
-          (raised - 1) c.args.radius (omega arith) (c.raised-height.ensures.hidden (omega arith));
+          (c.raised-height.result - 1) c.args.radius (omega arith) (c.raised-height.ensures.hidden (omega arith));
     }
 
 pub loop-height-preserved : goal.loop-height-preserved
@@ -23,7 +23,7 @@ loop-height-preserved c =
     let lines = c.in-Some.lines in
     let height = c.loop-height.height in
     let raised = c.raised.result in
-    let here : is_seen t o q height c.args.radius ≡ false =
+    let here =
     hidden_by_either _ (walk_blocks t.cells lines.columns)
     (walk_blocks t.cells lines.rows) c.in-Some.ensures.seen
     (sym c.blocker_past_blocks.ensures ∙ ap is_some c.in-Some-blocker_past_blocks.is) in

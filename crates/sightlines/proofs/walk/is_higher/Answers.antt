@@ -19,7 +19,7 @@ pub weigh-requires-3-clause-height : goal.weigh-requires-3-clause-height
 weigh-requires-3-clause-height c = kept _ (c.requires.heights
     (c.args.index + c.args.beside) c.in-Some-height.far (has_height c.args.cells.now
     (c.args.index + c.args.beside) c.index-cells-index-2.is c.height-2.ensures c.in-Some-height.is
-    (omega (arith, c.requires.far))))
+    (omega arith)))
 
 pub returns : goal.returns
 returns c =
@@ -34,7 +34,7 @@ returns c =
     let near_is = has_height c.args.cells.now _ c.index-cells-index.is c.height.ensures
     c.in-Some.is c.requires.near in
     let far_is = has_height c.args.cells.now (c.args.index + c.args.beside) c.index-cells-index-2.is
-    c.height-2.ensures c.in-Some-height.is (omega (arith, c.requires.far)) in
+    c.height-2.ensures c.in-Some-height.is (omega arith) in
     rw (near_is, far_is) (simp to_z-of_z (
     rw (simp to_z-of_z at c.weigh-2.ensures.value, simp to_z-of_z at c.weigh-3.ensures.value)
     (sym (above_both c.in-Some.near c.in-Some-height.far _ _

@@ -16,4 +16,4 @@ pub returns-clause-small : goal.returns-clause-small
 returns-clause-small c =
     rw (weighed_is _ _ c.requires.weight c.requires.height).1
     (times_small (pos c.args.weight) c.args.height 4096 (10 ^ 15) c.requires.weight
-    (omega (arith, ints, c.requires.height)))
+    (omega (arith, ints)))

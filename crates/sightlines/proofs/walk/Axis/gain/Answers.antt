@@ -26,13 +26,13 @@ returns-else-self c =
     let split : from ≡ (from - to) + to = omega arith in
     let all : c.args.count * from ≡ fall + c.args.count * to =
     omega (arith, ap (λ z. c.args.count * z) split) in
-    let reported : behind ≡ fall / n + min 1 (fall % n) = c.div_ceil-behind.ensures in
+    let reported = c.div_ceil-behind.ensures in
     let bounds : (fall ≤ behind * n) × (behind * n < fall + n) =
     rw reported (div_ceil_times fall n (omega arith)) in
-    let few = rounded_le fall n behind (omega arith) bounds.1 in
+    
     record {
       sum = omega (arith, all, bounds);
       below = omega (arith, bounds);
       few_ahead = omega arith;
-      few_behind = omega (arith, all, few);
+      few_behind = omega (arith, all, rounded_le fall n behind (omega arith) bounds.1);
     }

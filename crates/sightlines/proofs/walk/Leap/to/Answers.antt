@@ -17,9 +17,9 @@ overflow_add-whole c =
 
 pub overflow_add-sight : goal.overflow_add-sight
 overflow_add-sight c =
-    let line = c.args.line in
+    
     (leapt_elevation _ _ _ _
-    (steps_of line) c.args.first 16
+    (steps_of c.args.line) c.args.first 16
     c.requires.line.from_elevation c.requires.line.to_elevation (omega arith)
     (omega arith) c.requires.start.sight c.requires.leap.rise).0
 
@@ -28,8 +28,8 @@ overflow_sub-result c =
     let line = c.args.line in
     let is = step_stays line.side.from line.side.to (steps_of line) c.args.first 16
     c.args.self.ahead c.args.self.behind c.args.self.part (omega arith) c.requires.leap.gains.sum
-    (omega (arith, c.requires.start.part)) in
-    omega (arith, is.0, c.requires.start.whole)
+    (omega arith) in
+    omega arith
 
 pub returns-then-part-steps : goal.returns-then-part-steps
 returns-then-part-steps c =
@@ -37,14 +37,14 @@ returns-then-part-steps c =
     let end : c.args.first + 16 ≡ c.args.end = omega arith in
     let is = rw end at (step_stays line.side.from line.side.to (steps_of line) c.args.first 16
     c.args.self.ahead c.args.self.behind c.args.self.part (omega arith) c.requires.leap.gains.sum
-    (omega (arith, c.requires.start.part))) in
+    (omega arith)) in
     let elevation = rw end at (leapt_elevation _ _
     _ _ (steps_of line) c.args.first 16
     c.requires.line.from_elevation c.requires.line.to_elevation (omega arith)
     (omega arith) c.requires.start.sight c.requires.leap.rise) in
     record {
-      whole = omega (arith, is.0, c.requires.start.whole);
-      part = omega (arith, is.1, c.requires.start.part);
+      whole = omega arith;
+      part = omega arith;
       sight = elevation.1;
     }
 
@@ -65,8 +65,8 @@ overflow_sub-result-2 c =
     let is = step_passes line.side.from line.side.to
     _ c.args.first 16 c.args.self.ahead c.args.self.behind _
     (omega arith) (omega arith) gains.sum gains.below
-    (omega (arith, c.requires.start.part)) in
-    omega (arith, is.0, c.requires.start.whole)
+    (omega arith) in
+    omega arith
 
 pub returns : goal.returns
 returns c =
@@ -76,13 +76,13 @@ returns c =
     let is = rw end at (step_passes line.side.from line.side.to
     _ c.args.first 16 c.args.self.ahead c.args.self.behind _
     (omega arith) (omega arith) gains.sum gains.below
-    (omega (arith, c.requires.start.part))) in
+    (omega arith)) in
     let elevation = rw end at (leapt_elevation _ _
     _ _ (steps_of line) c.args.first 16
     c.requires.line.from_elevation c.requires.line.to_elevation (omega arith)
     (omega arith) c.requires.start.sight c.requires.leap.rise) in
     record {
-      whole = omega (arith, is.0, c.requires.start.whole);
-      part = omega (arith, is.1, c.requires.start.part);
+      whole = omega arith;
+      part = omega arith;
       sight = elevation.1;
     }
