@@ -29,7 +29,7 @@ offsets_rise : (k : ℕ) (a b : ℤ) (s t : Target) → 0 < s.line → 0 < t.lin
     Passes k a s → Passes k b t → a ≤ℤ b
 offsets_rise k a b s t some more slope low high =
     let on = low_onward a s.offset t.offset _ t.line k some slope low.low in
-    smaller a b t.line (omega (arith, ints, on, high.high))
+    smaller a b t.line (omega (arith, ints, on))
 
 pub passes_one : (k : ℕ) (offset : ℤ) (t : Target) → PassesAmong k offset offset t →
     Passes k offset t
@@ -118,7 +118,7 @@ blocker cells f k y offset rise t is stands later passes blocks =
               | None ↦ λ none.
                   let no =
                   nothing_far cells f k c y offset rise near t stands later passes cell.1 here none
-                  (omega (arith, ints, m.2)) in
+                  (omega (arith, ints)) in
                   absurd (cc)
               | Some far ↦ λ there.
                   let index : near_index f k (c + 1) ≡ near_index f k c + f.side.stride =
@@ -143,7 +143,7 @@ blocker cells f k y offset rise t is stands later passes blocks =
                   }
             ] refl
         | inr none ↦
-            let centre : (t.offset *ℤ pos k) ≡ offset *ℤ pos t.line = omega (arith, ints, m.2) in
+            let centre : (t.offset *ℤ pos k) ≡ offset *ℤ pos t.line = omega (arith, ints) in
             record {
               cell = c;
               next = c;
@@ -193,8 +193,8 @@ pub none_blocks :
     → IsTopNear cells f k low high None → line_blocks cells f t.line y rise k ≡ true → ⊥
 none_blocks cells f k y low high offset rise t is stands later passes a b none blocks =
     let by = blocker cells f k y offset rise t is stands later passes blocks in
-    none by.cell by.near by.inside.0 (omega (arith, ints, by.at, a))
-    (omega (arith, ints, by.at, b)) by.here
+    none by.cell by.near by.inside.0 (omega (arith, ints, a))
+    (omega (arith, ints, b)) by.here
 
 pub top_blocks :
     (cells : List (Option ℤ)) (f : Family) (k y : ℕ) (low high offset rise top : ℤ) (t : Target) →
@@ -207,15 +207,15 @@ top_blocks cells f k y low high offset rise top t is stands later passes a b nea
     elim by.beside [ inl same ↦ inl (ap pos same) | inr more ↦ inr (omega (arith, ints, more)) ] in
     let above : low ≤ℤ offset_of f by.next = elim next [
       | inl same ↦
-          omega (arith, ints, same, by.at, a)
-      | inr more ↦ omega (arith, ints, more, by.at, a)
+          omega (arith, ints, same, a)
+      | inr more ↦ omega (arith, ints, more, a)
     ] in
     let below : offset_of f by.next ≤ℤ (high +ℤ pos 1) = elim next [
       | inl same ↦
-          omega (arith, ints, same, by.at, b)
-      | inr more ↦ omega (arith, ints, more, by.at, b)
+          omega (arith, ints, same, b)
+      | inr more ↦ omega (arith, ints, more, b)
     ] in
     constant_hides f k offset _ _ top rise t passes
-    (near by.cell by.near by.inside.0 (omega (arith, ints, by.at, a))
-    (omega (arith, ints, by.at, b)) by.here)
+    (near by.cell by.near by.inside.0 (omega (arith, ints, a))
+    (omega (arith, ints, b)) by.here)
     (near by.next by.far by.inside.1 above below by.there) by.hides

@@ -117,12 +117,12 @@ made_tops size t tops some made =
     IsBlockTop size t q (get_or tops (index_in b q) None) = λ q inside.
     let below = index_in_below b q inside in
     made.each q inside below (get_or tops (index_in b q) None)
-    (slice_get-get_or tops (index_in b q) None (omega (arith, below, made.size))) in
+    (slice_get-get_or tops (index_in b q) None (omega (arith, below))) in
     record {
       count = made.size;
       heights = λ i h is. elim (cases_lt i (length tops)) [
         | inl within ↦
-            let below : i < b.rows * b.cols = omega (arith, made.size) in
+            let below : i < b.rows * b.cols = omega arith in
             let inside = place_inside b i below in
             (top (place_in b i) inside).height h
             (ap (λ n. get_or tops n None) (index_in-place_in b i) ∙ is)

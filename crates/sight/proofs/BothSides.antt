@@ -81,7 +81,7 @@ both_met {A} default Met f w old mid new few inside one two x y in_x in_y P met 
                 (omega arith) _ _ (subst (λ (z : ℕ). Met true n y (entry_in_extent default w z y mid)
                 (entry_in_extent default w z y new)) line (two.crossed n y crosses in_y)))
         | inr beside ↦ subst (P (at old)) (sym (two.kept x y in_x in_y (λ m c e. omega (arith, e, c.later, c.line.2 refl))
-            ∙ one.kept x y in_x in_y (λ m c e. omega (arith, e, c.later)))) (stays (at old) (omega arith))
+            ∙ one.kept x y in_x in_y (λ m c e. omega (arith, e)))) (stays (at old) (omega arith))
       ]
     ]
 

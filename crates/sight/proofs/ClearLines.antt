@@ -76,13 +76,13 @@ passes_within targets none m n k from end i low high t are few first up last dow
 -- what the line that `line_of_low` returns says of products
 pub up_from : (z : ℤ) (m near far k : ℕ) → ((pos 0 ≤ℤ z) × (m ≡ near)) ⊎ ((z <ℤ pos 0) × (m ≡ far)) →
     near ≤ k → k ≤ far → IsUp z m k
-up_from z m near far k (inl up) a b = inl (up.0, omega (arith, up.1))
-up_from z m near far k (inr up) a b = inr (omega (arith, ints, up.0), omega (arith, up.1))
+up_from z m near far k (inl up) a b = inl (up.0, omega arith)
+up_from z m near far k (inr up) a b = inr (omega (arith, ints), omega arith)
 
 pub up_to : (z : ℤ) (n near far k : ℕ) → ((pos 0 ≤ℤ z) × (n ≡ far)) ⊎ ((z <ℤ pos 0) × (n ≡ near)) →
     near ≤ k → k ≤ far → IsUp z k n
-up_to z n near far k (inl up) a b = inl (up.0, omega (arith, up.1))
-up_to z n near far k (inr up) a b = inr (omega (arith, ints, up.0), omega (arith, up.1))
+up_to z n near far k (inl up) a b = inl (up.0, omega arith)
+up_to z n near far k (inr up) a b = inr (omega (arith, ints), omega arith)
 
 -- ground of one height that hides a target from line k hides it from line n too, if n is the nearer
 -- one, or the farther one for ground below the eye
@@ -136,7 +136,7 @@ module _ (t : Terrain) (b : Bounds) (p : Place) (e : ℤ) (tops : List (Option �
     (in_rows : b.top + b.rows ≤ t.rows) (in_cols : b.left + b.cols ≤ t.cols)
     (are : AreTops 16 t tops) where
   few : blocks_in 16 t.cols ≤ 4096
-  few = omega (arith, few_blocks 16 t.cols (omega arith))
+  few = omega arith
 
   -- the height of a place is not above the entry of its block
   above_at : (x y i j : ℕ) (h : ℤ) → y < t.rows → x < t.cols → i ≡ y * t.cols + x →

@@ -50,7 +50,7 @@ seen_counted t os target radius i d b old new seen less before flags size each =
   each = λ p inside below entry is.
       let k = index_in b p in
       let had = before.each p inside below (get_or old k None)
-      (slice_get-get_or old k None (omega (arith, below, before.size))) in
+      (slice_get-get_or old k None (omega (arith, below))) in
       sym (get_or_from_slice_get new k entry None is)
       ∙ each k ∙ ap (λ v. counted v (get_or seen k false)) had
       ∙ ap (λ s. counted (value_at t (take i os) target radius p) s) (flags.each p inside below)

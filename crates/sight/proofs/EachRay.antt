@@ -50,8 +50,8 @@ same_cell w x y a b is in_x in_y in_a in_b e =
           let here : c * w.side.stride + r ≡ d * w.side.stride + q =
           omega (arith, e, ap (λ k. r * k) h.0, ap (λ k. q * k) h.0) in
           let same = parts_of c r d q w.side.stride (omega (arith, h.1, in_x))
-          (omega (arith, h.1, in_a)) here in
-          (omega (arith, same.1, in_x, in_a), omega (arith, same.0, in_y, in_b))
+          (omega (arith, in_a)) here in
+          (omega (arith, in_x, in_a), omega (arith, in_y, in_b))
     ]
 
 -- different lines have different coordinates
@@ -74,11 +74,11 @@ pub ray_is_target : (f : Family) (w : Extent) (flags : List Bool) (t : Target) �
     IsExtent f w flags → IsRay f w t → IsTarget t
 ray_is_target f w flags t is_f is_w ray = record {
   line = (
-    omega (arith, ray.crosses.later),
+    omega arith,
     near_line _ _ _ is_f.lines ray.crosses.line.2
-        (omega (arith, ray.crosses.within, is_w.lines)),
+        (omega arith),
   );
-  offset = omega (arith, ints, ray.stands.offset, ray.stands.side, is_f.side, is_f.cells);
+  offset = omega (arith, ints);
 }
 
 pub ray_at : (f : Family) (w : Extent) (flags : List Bool) (rays same : List Target) (n : ℕ) →
@@ -204,11 +204,11 @@ module _ {A : Type 0} (default : A) (Met : ℕ → ℕ → A → A → Type 0) (
 pub cell_back : (f : Family) (y : ℕ) (ray : Target) → IsFamily f → IsAtCell f y ray →
     unsigned_abs (to_z w32 (of_z w32 (to_z w32 f.side.at +ℤ to_z w32 (of_z w32 ray.offset)))) ≡ y
 cell_back f y ray is stands =
-    let sum : pos f.side.at +ℤ ray.offset ≡ pos y = omega (arith, ints, stands.offset) in
-    let offset = back_short ray.offset (omega (arith, ints, stands.offset, stands.side, is)) in
+    let sum : pos f.side.at +ℤ ray.offset ≡ pos y = omega (arith, ints) in
+    let offset = back_short ray.offset (omega (arith, ints, is)) in
     rw (
       to_z_pos w32 f.side.at (omega (arith, is)),
       offset,
       sum,
-      back_short (pos y) (omega (arith, stands.side, is)),
+      back_short (pos y) (omega (arith, is)),
     ) refl

@@ -19,9 +19,9 @@ pub all_far : (eye near p : Place) (b : Bounds) (radius : ℕ) → near.row ≡ 
     → is_near eye near radius ≡ false → IsInBounds b p → is_near eye p radius ≡ false
 all_far eye near p b radius row col far inside =
     let rows : abs_diff eye.row near.row ≤ abs_diff eye.row p.row =
-    omega (arith, row, nearest eye.row _ b.rows _ inside.0 inside.1) in
+    omega (arith, row) in
     let cols : abs_diff eye.col near.col ≤ abs_diff eye.col p.col =
-    omega (arith, col, nearest eye.col _ b.cols _ inside.2 inside.3) in
+    omega (arith, col) in
     let rows_squared = mul-le (abs_diff eye.row near.row) (abs_diff eye.row near.row)
     (abs_diff eye.row p.row) (abs_diff eye.row p.row) rows rows in
     let cols_squared = mul-le (abs_diff eye.col near.col) (abs_diff eye.col near.col)

@@ -22,7 +22,7 @@ flagged_more b Holds p flags i x inside at before is = record {
   each = λ q within below. elim (cases_eq (index_in b q) i) [
     | inl e ↦
         let one = within_injective b p q inside within (sym at ∙ sym e) in
-        let room : i < length flags = omega (arith, index_in_below b p inside, before.size) in
+        let room : i < length flags = omega (arith, index_in_below b p inside) in
         let here =
         ap (λ k. get_or (set flags i x) k false) e ∙ get_or-set_same flags i x false room in
         subst (Holds q) (sym here) (subst (λ (r : Place). Holds r x) one is)

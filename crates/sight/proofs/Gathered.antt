@@ -21,11 +21,11 @@ lines_passed : (f : Family) (w : Extent) (flags : List Bool) (n c k : ℕ) (rays
     (m < n) ⊎ ((m ≡ n) × (y < c))) → AreRays f w flags n c rays → AreRays f w flags k 0 rays
 lines_passed f w flags n c k rays less few none_between are = record {
   few = omega (arith, few);
-  each = λ u t at. let is = are.each u t at in (is.0, omega (arith, is.1));
+  each = λ u t at. let is = are.each u t at in (is.0, omega arith);
   sorted = are.sorted;
   whole = λ m y before crosses in_run flagged. elim before [
     | inl h ↦ are.whole m y (none_between m y h crosses in_run) crosses in_run flagged
-    | inr h ↦ absurd (omega (arith, h.1))
+    | inr h ↦ absurd (omega arith)
   ];
 }
 
@@ -33,7 +33,7 @@ pub line_ended : (f : Family) (w : Extent) (flags : List Bool) (n c : ℕ) (rays
     w.side.first + w.side.cells ≤ c → c ≤ 4096 → AreRays f w flags n c rays →
     AreRays f w flags (n + 1) 0 rays
 line_ended f w flags n c rays all few are =
-    lines_passed f w flags n c _ rays (omega arith) (omega (arith, are.few))
+    lines_passed f w flags n c _ rays (omega arith) (omega arith)
     (λ m y h crosses in_run. elim (cases_lt m n) [
       | inl less ↦ inl less
       | inr not ↦ inr (omega arith, omega arith)
@@ -42,7 +42,7 @@ line_ended f w flags n c rays all few are =
 pub line_passed : (f : Family) (w : Extent) (flags : List Bool) (n : ℕ) (rays : List Target) →
     (Crosses f w n → ⊥) → AreRays f w flags n 0 rays → AreRays f w flags (n + 1) 0 rays
 line_passed f w flags n rays not_there are = lines_passed f w flags n 0 _ rays (omega arith)
-    (omega (arith, are.few)) (λ m y h crosses in_run. elim (cases_lt m n) [
+    (omega arith) (λ m y h crosses in_run. elim (cases_lt m n) [
       | inl less ↦ inl less
       | inr not ↦
           let m_is : m ≡ n = omega arith in
@@ -53,7 +53,7 @@ pub cell_passed : (f : Family) (w : Extent) (flags : List Bool) (n c : ℕ) (ray
     flag_in_extent w (lead_of f n) c flags ≡ false → AreRays f w flags n c rays →
     AreRays f w flags n (c + 1) rays
 cell_passed f w flags n c rays unflagged are = record {
-  few = omega (arith, are.few);
+  few = omega arith;
   each = are.each;
   sorted = are.sorted;
   whole = λ m y before crosses in_run flagged. elim before [
@@ -61,7 +61,7 @@ cell_passed f w flags n c rays unflagged are = record {
     | inr h ↦ elim (cases_lt y c) [
       | inl less ↦ are.whole m y (inr (h.0, less)) crosses in_run flagged
       | inr not ↦
-          let y_is : y ≡ c = omega (arith, h.1) in
+          let y_is : y ≡ c = omega arith in
           let here = ap (λ k. flag_in_extent w (lead_of f k) y flags) h.0
           ∙ ap (λ k. flag_in_extent w (lead_of f n) k flags) y_is in
           absurd (cc)
@@ -132,4 +132,4 @@ pub all_gathered : (f : Family) (w : Extent) (flags : List Bool) (n : ℕ) (rays
     n ≤ 4096 → ((m : ℕ) → Crosses f w m → m < n) → AreRays f w flags n 0 rays →
     AreRays f w flags 4097 0 rays
 all_gathered f w flags n rays few end are = lines_passed f w flags n 0 4097 rays (omega arith)
-    (omega (arith, are.few)) (λ m y h crosses in_run. inl (end m crosses)) are
+    (omega arith) (λ m y h crosses in_run. inl (end m crosses)) are

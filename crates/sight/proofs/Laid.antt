@@ -73,7 +73,7 @@ pub more_raised : (cells : List (Option ℤ)) (f : Family) (targets : List Targe
     slice_get targets i ≡ Some t → Raises cells f k highest i t ramp)
     → (target_count new ≡ end) × RaisesBelow cells f targets k highest end new
 more_raised cells f targets k from end highest ramp old new reach more pushed raised here = (
-  omega (arith, pushed.reach),
+  omega arith,
   λ i t below at. elim (cases_lt i from) [
     | inl before ↦ let was = raised i t before at in
         (was.0, pushed.kept i (omega arith) ∙ was.1, was.2)
@@ -210,10 +210,10 @@ pub low_raised : (cells : List (Option ℤ)) (f : Family) (targets : List Target
     → (target_count new ≡ end) × RaisesBelow cells f targets k highest end new
 low_raised cells f targets k end highest ramp old new e is are pushed before at fresh =
     let none = none_raised cells f targets k highest old e in (
-      omega (arith, pushed.reach, none.0),
+      omega arith,
       λ i t below at_t. (
         ramp,
-        pushed.added i (omega (arith, none.0)) below,
+        pushed.added i (omega arith) below,
         record {
           at = at t (are.each i t at_t);
           clear = λ j y rise past below. absurd (omega arith);
@@ -241,7 +241,7 @@ high_raised cells f targets k from end highest offset u ramp old new some is are
       hides = λ y rise stands later _.
           let last = pos f.side.cells -ℤ pos f.side.at in
           let here : (last *ℤ pos u.line) ≤ℤ (u.offset *ℤ pos k) =
-          omega (arith, ints, grows last offset u.line past, passes.low) in
+          omega (arith, ints, grows last offset u.line past) in
           let on = low_onward last u.offset t.offset _ t.line k (are.each from u at_u).line.0
           (slope_up targets from i u t are low at_u at_t) here in
           absurd (passed_high f k y t is stands some later on);

@@ -21,7 +21,7 @@ use Rattle.sight.proofs.Indexed.{place_inside}
 pub limit_low : (t : Terrain) (os : List Observer) (radius : ℕ) (p : Place) (value : Option ℕ) →
     IsRiseAt t os radius p value → limit_of value ≤ highest_eye + 1
 limit_low t os radius p None is = omega arith
-limit_low t os radius p (Some n) is = omega (arith, is.0)
+limit_low t os radius p (Some n) is = omega arith
 
 none_below : (t : Terrain) (os : List Observer) (radius : ℕ) (p : Place) (value : Option ℕ) →
     IsRiseAt t os radius p value → (h : ℕ) → h < limit_of value →
@@ -91,7 +91,7 @@ tile_lowered t os radius i d b old new less before size each = record {
   size = size ∙ before.size;
   each = λ p inside below entry is.
       let k = index_in b p in
-      let room : k < length old = omega (arith, below, before.size) in
+      let room : k < length old = omega (arith, below) in
       let had = before.each p inside below (get_or old k None) (slice_get-get_or old k None room) in
       let lowered = subst (λ (q : Place). IsLowered t (get_or os i d) radius q (get_or old k None)
       (get_or new k None)) (place_in-index_in b p inside) (each k room) in

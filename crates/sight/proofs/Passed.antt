@@ -76,7 +76,7 @@ none_hides targets ramp h are pushed below is fresh cells f =
     λ i t at. pushed.added i (omega arith) (slice_get_within targets i t at) in
     record {
       over = record {
-        whole = omega (arith, pushed.reach);
+        whole = omega arith;
         each = λ i t r at_t here.
             let P : Ramp → Type 0 = λ s. IsRampAt s t in
             subst P (same_Some ramp r (sym (at i t at_t) ∙ here)) (is t (are.each i t at_t));

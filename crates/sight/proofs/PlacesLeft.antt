@@ -72,9 +72,9 @@ module _ (t : Terrain) (p : Place) (b : Bounds) (e : ℤ)
     each = λ q inside.
         reported new old ((q.col - b.left) * 1 + (q.row - b.top) * b.cols) (index_in b q) _ _
         (omega arith) (column_walk_is q (
-          omega (arith, inside.1, rows),
+          omega (arith, rows),
           omega
-              (arith, inside.3, cols),
+              (arith, cols),
         ))
         (are.each q.col q.row (inside.2, inside.3) (inside.0, inside.1));
   }
@@ -86,7 +86,7 @@ module _ (t : Terrain) (p : Place) (b : Bounds) (e : ℤ)
     size = are.size;
     each = λ q inside.
         reported new old ((q.row - b.top) * b.cols + (q.col - b.left) * 1) (index_in b q) _ _
-        (omega arith) (row_walk_is q (omega (arith, inside.1, rows), omega (arith, inside.3, cols)))
+        (omega arith) (row_walk_is q (omega (arith, rows), omega (arith, cols)))
         (are.each q.row q.col (inside.0, inside.1) (inside.2, inside.3));
   }
 

@@ -23,13 +23,13 @@ use Rattle.sight.proofs.BothSides.{both_met, lines_block, none_between}
 raised_on : (blocked : ℕ → Bool) (a b c : ℕ) → IsRaised blocked a b → IsRaised blocked b c →
     IsRaised blocked a c
 raised_on blocked a b c one two = record {
-  rises = omega (arith, one.rises, two.rises);
+  rises = omega arith;
   most = two.most;
   clear = two.clear;
   hidden = λ less. elim (cases_lt b c) [
     | inl more ↦ two.hidden more
     | inr same ↦
-        let e : b ≡ c = omega (arith, two.rises) in
+        let e : b ≡ c = omega arith in
         subst (λ (k : ℕ). blocked (k - 1) ≡ true) e (one.hidden (omega arith))
   ];
 }
@@ -49,7 +49,7 @@ set_low targets i v within few low k = elim (cases_eq k i) [
       let at = ap (λ j. get_or (set targets i v) j 0) same
           ∙ get_or-set_same targets i v 0 within in
       omega (arith, at)
-  | inr other ↦ omega (arith, get_or-set_other targets i k v 0 other, low k)
+  | inr other ↦ omega (arith, get_or-set_other targets i k v 0 other)
 ]
 
 pub ray_raised : (cells : List (Option ℤ)) (f : Family) (w : Extent) (flags : List Bool) (rays : List Target) (n : ℕ)
@@ -78,7 +78,7 @@ all_raised cells f w rays flags old new are most met = record {
   most = most;
   met = all_met 0 (IsRaisedIn cells f w flags) f w rays old new (λ n y crosses in_y.
       elim (cases_Bool (flag_in_extent w (lead_of f n) y flags)) [
-        | inl flagged ↦ inr (are.whole n y (inl (omega (arith, crosses.line.1))) crosses in_y flagged)
+        | inl flagged ↦ inr (are.whole n y (inl (omega arith)) crosses in_y flagged)
         | inr unflagged ↦ inl (λ flagged. absurd (cc))
       ]) met;
 }
@@ -112,7 +112,7 @@ raised_by p q a b same is = record {
   rises = is.rises;
   most = is.most;
   clear = λ few. sym (same b few) ∙ is.clear few;
-  hidden = λ less. sym (same (b - 1) (omega (arith, is.most))) ∙ is.hidden less;
+  hidden = λ less. sym (same (b - 1) (omega arith)) ∙ is.hidden less;
 }
 
 -- the index of a ray's cell is below the number of flags, and its bytes fit in 64 bits
@@ -125,11 +125,11 @@ ray_index f w flags t i is_f is_w ray at =
     let y = ray.cell in
     let here = at y ray.stands in
     let inside = is_w.inside (x - w.lines.first) (y - w.side.first)
-    (omega (arith, ray.crosses.within)) (omega (arith, ray.within)) in
+    (omega arith) (omega arith) in
     let row = mul-le (x - w.lines.first) w.lines.stride 4096 4096
-    (omega (arith, ray.crosses.within, is_w.lines)) is_w.strides.0 in
+    (omega arith) is_w.strides.0 in
     let cell = mul-le (y - w.side.first) w.side.stride 4096 4096
-    (omega (arith, ray.within, is_w.side, is_f.cells)) is_w.strides.1 in
+    (omega arith) is_w.strides.1 in
     (omega (arith, here, inside), omega (arith, here, row, cell))
 
 -- the rise of a target at a height within its limit is within its limit
@@ -138,4 +138,4 @@ pub rise_small : (cells : List (Option ℤ)) (f : Family) (h n y : ℕ) → AreH
 rise_small cells f h n y heights is few =
     let ground = ground_is_height (line_height cells f n y)
     (λ z at. heights (lead_of f n * f.lines.stride + y * f.side.stride) z at) in
-    omega (arith, ints, ground, few, is.eye)
+    omega (arith, ints, ground, few)

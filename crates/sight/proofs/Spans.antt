@@ -20,8 +20,8 @@ use Rattle.sightlines.proofs.Toward.{lead_up_is, lead_down_is}
 use Rattle.sight.proofs.Rays.{ramp_gains, shown_between, not_shown_near, not_shown_far, cell_is, stays_inside}
 
 pub floor_low : (z : ℤ) (n : ℕ) → 0 < n → (int_div_euclid z (pos n) *ℤ pos n) ≤ℤ z
-floor_low (pos a) n some = omega (arith, ints, div-add-mod' a n)
-floor_low (negsuc a) n some = omega (arith, ints, div-add-mod' a n, mod_below a n some)
+floor_low (pos a) n some = omega (arith, ints)
+floor_low (negsuc a) n some = omega (arith, ints)
 
 pub floor_high : (z : ℤ) (n : ℕ) → 0 < n → z <ℤ ((int_div_euclid z (pos n) +ℤ pos 1) *ℤ pos n)
 floor_high (pos a) n some = omega
@@ -32,9 +32,9 @@ floor_high (negsuc a) n some =
 pub floor_small : (z : ℤ) (n : ℕ) → 0 < n → unsigned_abs z ≤ 2 ^ 24 →
     unsigned_abs (int_div_euclid z (pos n)) ≤ 2 ^ 25
 floor_small (pos a) n some h =
-    omega (arith, ints, mul-le (a / n) 1 (a / n) n (omega arith) (omega arith), div-add-mod' a n)
+    omega (arith, ints)
 floor_small (negsuc a) n some h =
-    omega (arith, ints, mul-le (a / n) 1 (a / n) n (omega arith) (omega arith), div-add-mod' a n)
+    omega (arith, ints)
 
 -- let the ray to a target on line n cross line k at the cell at `offset`, or between this cell and
 -- the next. Then the ray crosses m n-ths past the cell at `offset`, for an m below n.
@@ -46,7 +46,7 @@ past k offset t p =
      (
       (up x + down y) - (down x + up y),
       omega (arith, ints, p.low, p.high, sum_times offset (pos 1) (pos t.line)),
-      omega (arith, ints, p.low),
+      omega (arith, ints),
     )
 
 lead_is : (f : Family) (n k : ℕ) → IsLine f n → k ≤ n → whole_at (lead_axis f n) n k ≡ lead_of f k
@@ -113,7 +113,7 @@ pub nothing_far : (cells : List (Option ℤ)) (f : Family) (k c y : ℕ) (offset
     → line_blocks cells f t.line y rise k ≡ false
 nothing_far cells f k c y offset rise near t stands later passes at some none beyond =
     let m = past k offset t passes in
-    let part : 0 < m.0 = omega (arith, ints, beyond, m.2) in
+    let part : 0 < m.0 = omega (arith, ints, beyond) in
     crossing_is cells f k c _ y offset rise t stands later m.1 m.2 at
     ∙ (rw (some, none)
     (not_shown_far near _ _ (sight f.eye (f.eye +ℤ rise) t.line k) m.1 part))

@@ -36,7 +36,7 @@ module _ (t : Terrain) (p : Place) (b : Bounds) (e : ℤ) (flags : List Bool) (o
       (λ h. column_blocks t p q e (height_of t q +ℤ pos h)) _
       _
       (λ h. column_walk_is t p b e h [] [] observer rows cols q
-      (omega (arith, inside.1, rows), omega (arith, inside.3, cols)))
+      (omega (arith, rows), omega (arith, cols)))
       (subst Walked at (are.each q.col q.row (inside.2, inside.3) (inside.0, inside.1)
       (ap (λ k. get_or flags k false) at ∙ flagged)))
 
@@ -55,7 +55,7 @@ module _ (t : Terrain) (p : Place) (b : Bounds) (e : ℤ) (flags : List Bool) (o
       (λ h. row_blocks t p q e (height_of t q +ℤ pos h)) _
       _
       (λ h. row_walk_is t p b e h [] [] observer rows cols q
-      (omega (arith, inside.1, rows), omega (arith, inside.3, cols)))
+      (omega (arith, rows), omega (arith, cols)))
       (subst Walked at (are.each q.row q.col (inside.0, inside.1) (inside.2, inside.3)
       (ap (λ k. get_or flags k false) at ∙ flagged)))
 
@@ -77,11 +77,11 @@ raised_over_both one two mid new stays first second = record {
   rises = omega arith;
   most = second.most;
   clear = λ few. open_is _ _
-      (stays mid new second.rises (first.clear (omega (arith, second.rises)))) (second.clear few);
+      (stays mid new second.rises (first.clear (omega arith))) (second.clear few);
   hidden = λ some. elim (cases_lt mid new) [
     | inl more ↦ second_blocks (one (new - 1)) _ (second.hidden more)
     | inr same ↦
-        let e : mid ≡ new = omega (arith, second.rises) in
+        let e : mid ≡ new = omega arith in
         first_blocks _ (two (new - 1)) (subst (λ (k : ℕ). one (k - 1) ≡ true) e
         (first.hidden (omega arith)))
   ];

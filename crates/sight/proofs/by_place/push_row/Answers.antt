@@ -13,7 +13,7 @@ loop-col-preserved g c =
     let next : index_in b p + 1 ≡ (c.args.row - b.top) * b.cols + (c.loop-col.col + 1 - b.left) =
     omega arith in
     let more = made_push b Has p _ _
-    (omega (arith, c.requires.row), omega (arith, c.requires.row), omega arith, omega arith)
+    (omega arith, omega arith, omega arith, omega arith)
     c.loop-col.invariant c.entry.ensures in
     rw c.in_ok-push.ensures.items (subst
     (λ (n : ℕ). IsMadeUpTo b Has n (c.loop-col.list.items ++ c.entry.result ∷ [])) next more)

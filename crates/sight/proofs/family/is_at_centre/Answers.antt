@@ -10,13 +10,13 @@ overflow_mul-result c =
 pub overflow_mul-result-2 : goal.overflow_mul-result-2
 overflow_mul-result-2 c =
     let is = times_short c.args.offset c.args.target.line c.requires.offset
-    (omega (arith, c.requires.target.line)) in
+    (omega arith) in
     rw is.1 is.0
 
 pub returns : goal.returns
 returns c =
     let one = times_short c.args.target.offset c.args.line c.requires.target.offset (omega arith) in
     let two = times_short c.args.offset c.args.target.line c.requires.offset
-    (omega (arith, c.requires.target.line)) in
+    (omega arith) in
     rw (one.1, two.1) (same_short _
     _ one.0 two.0)

@@ -16,7 +16,7 @@ returns c =
       unsigned_abs-mul t.offset (pos k),
       mul-le (unsigned_abs t.offset) k 4096 4096 c.requires.target.offset (omega arith),
     ) in
-    let offset = back_short t.offset (omega (arith, c.requires.target.offset)) in
+    let offset = back_short t.offset (omega arith) in
     
     let line = to_z_pos w32 t.line (omega (arith, c.requires.target.line)) in
     

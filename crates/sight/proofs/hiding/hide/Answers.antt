@@ -29,7 +29,7 @@ loop-number-init c =
     record {
       looks = subst (λ (k : ℕ). LooksFrom c.args.cells.now c.args.family
           c.in_ok-ranked.ranked.targets.items k c.in_ok-lookup.lookup) (sym first.line) first;
-      some = omega (arith, first.line);
+      some = omega arith;
       line = λ u t after at.
           let here = ap (λ (xs : List Target). slice_get xs u) (sym c.deref-ray-items.ensures.value)
           ∙ at in
@@ -170,6 +170,6 @@ returns c =
     let end : c.loop-number.number ≡ length rays = omega arith in
     all_met false (IsFlagLeft c.args.cells.now f c.args.height) f w rays old c.loop-number.flags (λ n y crosses in_y.
         elim (cases_Bool (flag_in_extent w (lead_of f n) y old)) [
-          | inl flagged ↦ inr (are.whole n y (inl (omega (arith, crosses.line.1))) crosses in_y flagged)
+          | inl flagged ↦ inr (are.whole n y (inl (omega arith)) crosses in_y flagged)
           | inr unflagged ↦ inl (unflagged ∙ sym (and_left _ _ unflagged))
         ]) (rw end at c.loop-number.invariant.flags)

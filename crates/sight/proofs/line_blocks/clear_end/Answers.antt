@@ -14,12 +14,12 @@ use Rattle.sight.proofs.line_blocks.clear_end.Goals as goal
 pub offset_at-low-requires-clause-target : goal.offset_at-low-requires-clause-target
 offset_at-low-requires-clause-target c =
     c.requires.targets.each c.args.from _ (slice_get-get_or c.args.targets.now c.args.from
-    (record { offset = pos 0; line = 0 }) (omega (arith, c.requires.range)))
+    (record { offset = pos 0; line = 0 }) (omega arith))
 
 pub offset_at-high-requires-clause-target : goal.offset_at-high-requires-clause-target
 offset_at-high-requires-clause-target c =
     c.requires.targets.each (c.args.piece.end - 1) _ (slice_get-get_or c.args.targets.now
-    (c.args.piece.end - 1) (record { offset = pos 0; line = 0 }) (omega (arith, c.requires.range)))
+    (c.args.piece.end - 1) (record { offset = pos 0; line = 0 }) (omega arith))
 
 pub constant_ramp-ground-requires-clause-height : goal.constant_ramp-ground-requires-clause-height
 constant_ramp-ground-requires-clause-height c =

@@ -9,7 +9,7 @@ loop-past-preserved-then-is_before c =
     let targets = c.args.targets.now in
     let l = c.loop-past in
     let middle = l.before + (l.past - l.before) / 2 in
-    let back = back_short c.args.offset (omega (arith, c.requires.offset)) in
+    let back = back_short c.args.offset (omega arith) in
     
     let at = slice_get-get_or targets middle (record { offset = pos 0; line = 0 }) (omega arith) in
     rw back (record {

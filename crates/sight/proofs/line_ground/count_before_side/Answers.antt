@@ -22,7 +22,7 @@ is_before-requires-clause-target c = c.requires.targets.each 0 _
 pub end_before-requires-clause-before : goal.end_before-requires-clause-before
 end_before-requires-clause-before c =
     let first = c.first_offset-first.result in
-    let back = back_short first (omega (arith, c.first_offset-first.ensures.small)) in
+    let back = back_short first (omega arith) in
     
     rw back (before_to _ _ 0 first _ c.requires.targets
     (first_is c.args.targets.now (sym c.is_empty.ensures ∙ c.if-is_empty.false))

@@ -9,7 +9,7 @@ loop-leap-preserved c =
     let targets = c.args.targets.now in
     let l = c.loop-leap in
     let next = l.low + l.leap in
-    let back = back_short c.args.offset (omega (arith, c.requires.offset)) in
+    let back = back_short c.args.offset (omega arith) in
     
     let at = slice_get-get_or targets next (record { offset = pos 0; line = 0 }) (omega arith) in
     rw back (record {
@@ -21,8 +21,8 @@ loop-leap-preserved c =
 
 pub returns-then-not-is_before-clause-before : goal.returns-then-not-is_before-clause-before
 returns-then-not-is_before-clause-before c =
-    rw (back_short c.args.offset (omega (arith, c.requires.offset))) at c.bisect.ensures.before
+    rw (back_short c.args.offset (omega arith)) at c.bisect.ensures.before
 
 pub returns-clause-before : goal.returns-clause-before
 returns-clause-before c =
-    rw (back_short c.args.offset (omega (arith, c.requires.offset))) at c.bisect-2.ensures.before
+    rw (back_short c.args.offset (omega arith)) at c.bisect-2.ensures.before

@@ -25,7 +25,7 @@ end_before-requires-clause-before c =
     let from = c.args.from in
     let last = c.args.span.last in
     let at = slice_get-get_or targets from (record { offset = pos 0; line = 0 })
-    (omega (arith, c.requires.range)) in
+    (omega arith) in
     
     let next = back_short (last +ℤ pos 1) (omega (arith, ints, c.requires.last)) in
     rw (back_short last (omega (arith, c.requires.last)), next) (before_to targets _ from _ _ c.requires.targets at

@@ -10,8 +10,8 @@ returns c =
     let t = c.args.target in
     let k = c.args.line in
     let offset = c.args.offset in
-    let short = back_short t.offset (omega (arith, c.requires.target.offset)) in
-    let long = back t.offset (omega (arith, c.requires.target.offset)) in
+    let short = back_short t.offset (omega arith) in
+    let long = back t.offset (omega arith) in
     
     
     

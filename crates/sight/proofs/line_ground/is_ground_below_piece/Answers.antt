@@ -13,19 +13,19 @@ use Rattle.sight.proofs.line_ground.is_ground_below_piece.Goals as goal
 pub offset_at-low-requires-clause-target : goal.offset_at-low-requires-clause-target
 offset_at-low-requires-clause-target c =
     c.requires.targets.each c.args.from _ (slice_get-get_or c.args.targets.now c.args.from
-    (record { offset = pos 0; line = 0 }) (omega (arith, c.requires.range)))
+    (record { offset = pos 0; line = 0 }) (omega arith))
 
 pub offset_at-high-requires-clause-target : goal.offset_at-high-requires-clause-target
 offset_at-high-requires-clause-target c =
     c.requires.targets.each (c.args.piece.end - 1) _ (slice_get-get_or c.args.targets.now
-    (c.args.piece.end - 1) (record { offset = pos 0; line = 0 }) (omega (arith, c.requires.range)))
+    (c.args.piece.end - 1) (record { offset = pos 0; line = 0 }) (omega arith))
 
 pub returns-in_default : goal.returns-in_default
 returns-in_default c i t low high at y rise stands later blocks =
     let low_back =
-    back_short c.offset_at-low.result (omega (arith, c.offset_at-low.ensures.small)) in
+    back_short c.offset_at-low.result (omega arith) in
     let high_back =
-    back_short c.offset_at-high.result (omega (arith, c.offset_at-high.ensures.small)) in
+    back_short c.offset_at-high.result (omega arith) in
     let ray =
     passes_between _ (record { offset = pos 0; line = 0 }) _ _
     _ i _ _ t c.requires.targets

@@ -24,10 +24,10 @@ returns-then-span-end_offset c =
     let u = get_or targets from (record { offset = pos 0; line = 0 }) in
     let at_u =
     slice_get-get_or targets from (record { offset = pos 0; line = 0 }) (omega arith) in
-    let back = back_short span.offset (omega (arith, c.span-span.ensures.small)) in
-    let end_back = back_short c.end_offset.result (omega (arith, c.end_offset.ensures.small)) in
+    let back = back_short span.offset (omega arith) in
+    let end_back = back_short c.end_offset.result (omega arith) in
     let past : (pos f.side.cells -ℤ pos f.side.at) ≤ℤ span.offset = omega
-    (arith, ints, (rw (end_back, back) at c.if-span-end_offset.true), c.end_offset.ensures.value) in
+    (arith, ints) in
     on_ok_weaker c.push.result
     (high_raised _ f targets _ from _ _
     _ u _ _ c.push.new.self c.requires.line.0
@@ -51,15 +51,15 @@ push_greater-requires-clause-one c i t low high at =
     shown_over _ _ _ _ c.loop-from.from
     _ c.span-span.result _ c.requires.targets at_u c.span-span.ensures.shows
     (λ i t low high. c.end_of-end.ensures.over i _ t low high at_u)
-    i t (omega (arith, c.loop-from.invariant.target_count)) high at in
+    i t (omega arith) high at in
     shows.at
 
 pub push_greater-requires-clause-other : goal.push_greater-requires-clause-other
 push_greater-requires-clause-other c i t low high at =
     c.requires.highest.each i t c.args.piece.ramp at
     (c.requires.piece i
-    (omega (arith, c.loop-from.invariant.within, c.loop-from.invariant.target_count))
-    (omega (arith, c.end_of-end.ensures.range)))
+    (omega arith)
+    (omega arith))
 
 pub loop-from-preserved : goal.loop-from-preserved
 loop-from-preserved c =
@@ -74,10 +74,10 @@ loop-from-preserved c =
     _ _ _ _ _ _
     _ l.invariant.target_count range.0
     c.requires.highest c.requires.clear (λ i low high. c.requires.piece i (omega
-    (arith, l.invariant.within)) (omega (arith, range))) c.span-span.ensures.clear
+    arith) (omega (arith, range))) c.span-span.ensures.clear
     c.in_ok-push_greater.ensures l.invariant.raises shows in
     record {
-      within = (omega (arith, l.invariant.within, range), range.1);
+      within = (omega (arith, range), range.1);
       target_count = raised.0;
       raises = raised.1;
     }

@@ -24,7 +24,7 @@ loop-number-init c =
     record {
       looks = subst (λ (k : ℕ). LooksFrom c.args.cells.now c.args.family
           c.in_ok-ranked.ranked.targets.items k c.in_ok-lookup.lookup) (sym first.line) first;
-      some = omega (arith, first.line);
+      some = omega arith;
       line = λ u t after at.
           let here = ap (λ (xs : List Target). slice_get xs u) (sym c.deref-ray-items.ensures.value)
           ∙ at in
@@ -75,7 +75,7 @@ bounds-targets-index c =
     _ _ c.deref-ray-items.ensures.value
     c.loop-number-test.true c.in_ok-rays.ensures.rays)
     c.flag_index-index.ensures in
-    omega (arith, at, c.requires.size, c.loop-number.invariant.targets.size)
+    omega (arith, at)
 
 pub offset_bounds-targets-index-in-loop-number : goal.offset_bounds-targets-index-in-loop-number
 offset_bounds-targets-index-in-loop-number c =
@@ -95,7 +95,7 @@ bounds-targets-index-in-loop-number c =
     _ _ c.deref-ray-items.ensures.value
     c.loop-number-test.true c.in_ok-rays.ensures.rays)
     c.flag_index-index.ensures in
-    omega (arith, at, c.requires.size, c.loop-number.invariant.targets.size)
+    omega (arith, at)
 
 pub raise-requires-clause-line : goal.raise-requires-clause-line
 raise-requires-clause-line c =
@@ -176,7 +176,6 @@ loop-number-preserved c =
         arith,
         within,
         c.requires.size,
-        c.loop-number.invariant.targets.size,
       )) raised.most c.loop-number.invariant.most;
       targets = subst (λ (i : ℕ). AreMetBelow 0 (IsRaisedIn cells f w c.args.flags.now) f w rays (n + 1) old
           (set c.loop-number.targets i c.raise.result)) (sym index)
@@ -184,8 +183,6 @@ loop-number-preserved c =
           c.requires.apart (omega (
             arith,
             within,
-            c.requires.size,
-            c.loop-number.invariant.targets.size,
             index,
           )) at_t ray.stands ray.within ray.crosses
           (subst (λ (i : ℕ). IsRaised (lines_block_at cells f t.line ray.cell)

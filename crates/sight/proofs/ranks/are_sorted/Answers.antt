@@ -23,7 +23,7 @@ pub is_before-requires-clause-line : goal.is_before-requires-clause-line
 is_before-requires-clause-line c =
     let is = c.requires (c.loop-index.index - 1) _ (slice_get-get_or c.args.targets.now
     (c.loop-index.index - 1) (record { offset = pos 0; line = 0 }) (omega arith)) in
-    omega (arith, is.line)
+    omega arith
 
 pub is_before-requires-clause-offset : goal.is_before-requires-clause-offset
 is_before-requires-clause-offset c =
@@ -31,7 +31,7 @@ is_before-requires-clause-offset c =
     in
     let is = c.requires (c.loop-index.index - 1) last (slice_get-get_or c.args.targets.now
     (c.loop-index.index - 1) (record { offset = pos 0; line = 0 }) (omega arith)) in
-    rw (back_short last.offset (omega (arith, is.offset))) (omega (arith, is.offset))
+    rw (back_short last.offset (omega arith)) (omega arith)
 
 pub loop-index-preserved : goal.loop-index-preserved
 loop-index-preserved c =

@@ -3,7 +3,7 @@ use Rattle.sight.proofs.Gathered.{all_gathered}
 use Rattle.sight.proofs.family.Family.gather.Goals as goal
 
 pub returns-clause-few : goal.returns-clause-few
-returns-clause-few c = omega (arith, c.loop-line.invariant.few)
+returns-clause-few c = omega arith
 
 pub returns-clause-rays : goal.returns-clause-rays
 returns-clause-rays c =

@@ -49,5 +49,5 @@ pub returns : goal.returns
 returns c =
     line_ended _
     _ _ _ _ _ (omega arith)
-    (omega (arith, c.loop-cell.auto.cell-end, c.requires.extent.side, c.requires.family.cells))
+    (omega arith)
     c.loop-cell.invariant

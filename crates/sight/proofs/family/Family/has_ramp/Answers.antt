@@ -56,7 +56,7 @@ returns-clause-shows c =
     let offset = c.args.offset in
     let near = c.in-Some-height_at.near in
     let far = c.in-Some-height_at-2.far in
-    let back = back_short offset (omega (arith, c.requires.offset)) in
+    let back = back_short offset (omega arith) in
     
     
     let cell = rw back at c.in-Some.ensures in

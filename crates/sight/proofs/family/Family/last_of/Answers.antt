@@ -12,7 +12,7 @@ pub loop-self-preserved : goal.loop-self-preserved
 loop-self-preserved c =
     let l = c.loop-self in
     let last = to_z w32 l.last-bits in
-    let first_back = back_short c.args.first (omega (arith, c.requires.first)) in
+    let first_back = back_short c.args.first (omega arith) in
     let range = rw first_back at l.invariant.range in
     let next =
     back_short (last +ℤ pos 1) (next_small _ last c.requires.first range.0 range.1) in
@@ -30,5 +30,5 @@ loop-self-preserved c =
 
 pub returns-clause-shows : goal.returns-clause-shows
 returns-clause-shows c b t past below is passes =
-    let first_back = back_short c.args.first (omega (arith, c.requires.first)) in
+    let first_back = back_short c.args.first (omega arith) in
     c.loop-self.invariant.shows b t (rw first_back past) below is passes

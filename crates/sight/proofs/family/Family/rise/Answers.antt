@@ -16,13 +16,13 @@ pub overflow_sub-result : goal.overflow_sub-result
 overflow_sub-result c =
     let is : IsHeight c.unwrap_or-ground.result = rw c.unwrap_or-ground.ensures
     (ground_is_height _ c.height_of.ensures.height) in
-    omega (arith, ints, is, c.requires.family.eye)
+    omega (arith, ints, is)
 
 pub returns-clause-small : goal.returns-clause-small
 returns-clause-small c =
     let is : IsHeight c.unwrap_or-ground.result = rw c.unwrap_or-ground.ensures
     (ground_is_height _ c.height_of.ensures.height) in
-    omega (arith, ints, is, c.requires.family.eye)
+    omega (arith, ints, is)
 
 pub returns-clause-value : goal.returns-clause-value
 returns-clause-value c y stands =
@@ -31,4 +31,4 @@ returns-clause-value c y stands =
     (ground_is_height _ c.height_of.ensures.height) in
     let is = c.unwrap_or-ground.ensures
     ∙ ap (λ h. unwrap_or h (pos 0)) (c.height_of.ensures.value y stands) in
-    omega (arith, ints, is, small, c.requires.family.eye)
+    omega (arith, ints, is, small)

@@ -108,11 +108,11 @@ ramp-requires-clause-heights c =
 
 pub last_of-requires-clause-first : goal.last_of-requires-clause-first
 last_of-requires-clause-first c =
-    omega (arith, ints, c.in-Some.ensures.1, c.in-Some.ensures.2, c.requires.family)
+    omega (arith, ints, c.in-Some.ensures.1, c.in-Some.ensures.2)
 
 pub ramp-requires-clause-offset : goal.ramp-requires-clause-offset
 ramp-requires-clause-offset c =
-    omega (arith, ints, c.in-Some.ensures.1, c.in-Some.ensures.2, c.requires.family)
+    omega (arith, ints, c.in-Some.ensures.1, c.in-Some.ensures.2)
 
 pub returns-clause-shows : goal.returns-clause-shows
 returns-clause-shows c t is_t slope among alone =
@@ -143,7 +143,7 @@ overflow_add-index c =
     let cell = c.in-Some.ensures in
     let lead : lead_of f c.args.line ≤ 8192 = grind arith in
     let lines = mul-le (lead_of f c.args.line) f.lines.stride 8192 4096 lead
-    (omega (arith, c.requires.family.strides)) in
+    (omega arith) in
     let side = mul-le cell.0 f.side.stride 4096 4096
-    (omega (arith, cell.1, c.requires.family.cells)) (omega (arith, c.requires.family.strides)) in
-    omega (arith, cell.3, lines, side, c.requires.family.strides)
+    (omega arith) (omega arith) in
+    omega (arith, lines, side)

@@ -35,7 +35,7 @@ count_seen-requires-clause-few g c k n e =
     let before = few self.grid.now.terrain self.observers.now _ _
     c.loop-observer.observer-index _ _ c.loop-observer.invariant k
     n e in
-    omega (arith, before, lawful.few)
+    omega (arith, before)
 
 pub loop-observer-preserved : goal.loop-observer-preserved
 loop-observer-preserved g c =

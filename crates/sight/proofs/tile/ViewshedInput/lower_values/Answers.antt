@@ -20,13 +20,13 @@ returns-in-Ok c k less =
     let flags = c.in_ok-flags.flags.items in
     let old = c.in_ok-targets.targets in
     let targets = c.raise_blocked.new.targets in
-    let below : k < b.rows * b.cols = omega (arith, less, c.requires.size) in
+    let below : k < b.rows * b.cols = omega (arith, less) in
     let at = index_in-place_in b k in
     let made = c.in_ok-flags.ensures in
     let candidate = made.each (place_in b k) (place_inside b k below) (rw at below) (get_or flags k false)
-    (rw at (slice_get-get_or flags k false (omega (arith, below, made.size)))) in
+    (rw at (slice_get-get_or flags k false (omega (arith, below)))) in
     let whole = with_items_is old targets
-    (omega (arith, c.raise_blocked.auto.targets, c.deref_mut.ensures.len, old.ok.0)) in
+    (omega arith) in
     let raised : get_or flags k false ≡ true → IsRaised (λ h. not (is_open t o (place_in b k) h)) 0
     (get_or targets k 0) = λ flagged.
     subst (λ (j : ℕ). IsRaised (λ h. not (is_open t o (place_in b k) h)) 0 (get_or targets j 0)) at

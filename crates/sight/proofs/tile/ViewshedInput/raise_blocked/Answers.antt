@@ -38,7 +38,7 @@ raise_on_both_sides-requires-clause-inside c =
 pub raise_on_both_sides-requires-2-clause-inside : goal.raise_on_both_sides-requires-2-clause-inside
 raise_on_both_sides-requires-2-clause-inside c =
     rw (c.axes-axes.ensures.columns, c.axes-axes.ensures.rows)
-    (λ x y in_x in_y. row_flags c.args.bounds x y _ (omega (arith, c.requires.size)) in_x in_y)
+    (λ x y in_x in_y. row_flags c.args.bounds x y _ (omega arith) in_x in_y)
 
 pub returns : goal.returns
 returns c =
@@ -51,9 +51,9 @@ returns c =
     let back = to_z-of_z w64 c.axes-axes.result.eye (search rules) in
     let e = eye_of t o in
     let in_rows : b.top + b.rows ≤ t.rows =
-    omega (arith, c.requires.inside.rows_inside, self.cut) in
+    omega arith in
     let in_cols : b.left + b.cols ≤ t.cols =
-    omega (arith, c.requires.inside.cols_inside, self.cut) in
+    omega arith in
     let flags = c.args.flags.now in
     let old = c.args.targets.now in
     let mid = c.raise_on_both_sides.new.targets in

@@ -25,7 +25,7 @@ loop-col-preserved c =
     let next : (c.args.row - b.top) * b.cols + (c.loop-col.col - b.left)
     + 1 ≡ (c.args.row - b.top) * b.cols + (c.loop-col.col + 1 - b.left) = omega arith in
     let more = flagged_more b Holds p _ _ _
-    (omega (arith, c.requires.row), omega (arith, c.requires.row), omega arith, omega arith)
+    (omega arith, omega arith, omega arith, omega arith)
     at c.loop-col.invariant c.flag_of.ensures in
     subst (λ (n : ℕ). AreFlagsBelow b Holds n (set c.loop-col.flags
     ((c.args.row - b.top) * b.cols + (c.loop-col.col - b.left)) c.flag_of.result)) next more
