@@ -24,7 +24,7 @@ pub ramp_of_piece : (ps : List Piece) (k : ℕ) (p : Piece) (i : ℕ) → slice_
     ramp_at ps i ≡ Some p.ramp
 ramp_of_piece [] k p i e before h = cc
 ramp_of_piece (q ∷ ps) zero p i e before h =
-    let same : q ≡ p = same_Some q p e in
+    let same = same_Some q p e in
     ramp_at-here q ps i (rw same h) ∙ ap (λ (z : Piece). Some z.ramp) same
 ramp_of_piece (q ∷ ps) (suc k) p i e before h =
     ramp_at-later q ps i (before 0 q (omega arith) refl)
@@ -64,7 +64,7 @@ passed ps k i d before h ends m p less at = elim (cases_lt m k) [
   | inl first ↦ before m p first at
   | inr not ↦
       let m_is : m ≡ k = omega arith in
-      let is : get_or ps k d ≡ p =
+      let is =
       get_or_from_slice_get ps k p d (ap (slice_get ps) (sym m_is) ∙ at) in
       rw is at ends
 ]
@@ -124,8 +124,8 @@ longer_kept : (ps : List Piece) (k : ℕ) (p q : Piece) (i : ℕ) →
 unfolding target_count
 longer_kept [] k p q i last e h same h_i = absurd (omega arith)
 longer_kept (z ∷ []) zero p q i last e h same h_i =
-    let z_is : z ≡ q = same_Some z q e in
-    let z_end : z.end ≡ q.end = ap (λ (y : Piece). y.end) z_is in
+    let z_is = same_Some z q e in
+    let z_end = ap (λ (y : Piece). y.end) z_is in
     ramp_at-here p [] i (omega arith) ∙ ap Some (sym same)
     ∙ ap (λ (y : Piece). Some y.ramp) (sym z_is) ∙ sym (ramp_at-here z [] i (omega arith))
 longer_kept (z ∷ y ∷ ps) zero p q i last e h same h_i = absurd (omega arith)

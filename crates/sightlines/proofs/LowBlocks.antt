@@ -50,11 +50,11 @@ toward_between a b n i j k low high few =
     let left_i : n - i ≡ (k - i) + ((j - k) + (n - j)) = omega arith in
     let left_k : n - k ≡ (j - k) + (n - j) = omega arith in
     let is = between_parts a b i (k - i) (j - k) (n - j) in
-    let one : toward a b n i ≡ a * ((k - i) + ((j - k) + (n - j))) + b * i =
+    let one =
     ap (λ z. a * z + b * i) left_i in
-    let two : toward a b n k ≡ a * ((j - k) + (n - j)) + b * (i + (k - i)) =
+    let two =
     ap (λ z. a * z + b * k) left_k ∙ ap (λ z. a * ((j - k) + (n - j)) + b * z) k_is in
-    let three : toward a b n j ≡ a * (n - j) + b * (i + (k - i) + (j - k)) =
+    let three =
     ap (λ z. a * (n - j) + b * z) j_is in
     (omega (arith, is, one, two, three), omega (arith, is, one, two, three))
 
@@ -116,12 +116,12 @@ sight_between e f z n i j k low high few one two =
     let j_is : j ≡ i + (k - i) + (j - k) = omega arith in
     let left_i : n - i ≡ (k - i) + ((j - k) + (n - j)) = omega arith in
     let left_k : n - k ≡ (j - k) + (n - j) = omega arith in
-    let at_i : sight e f n i ≡ ((e *ℤ pos ((k - i) + ((j - k) + (n - j)))) +ℤ (f *ℤ pos i)) =
+    let at_i =
     ap (λ x. (e *ℤ pos x) +ℤ (f *ℤ pos i)) left_i in
-    let at_k : sight e f n k ≡ ((e *ℤ pos ((j - k) + (n - j))) +ℤ (f *ℤ pos (i + (k - i)))) =
+    let at_k =
     ap (λ x. (e *ℤ pos x) +ℤ (f *ℤ pos k)) left_k
     ∙ ap (λ x. (e *ℤ pos ((j - k) + (n - j))) +ℤ (f *ℤ pos x)) k_is in
-    let at_j : sight e f n j ≡ ((e *ℤ pos (n - j)) +ℤ (f *ℤ pos (i + (k - i) + (j - k)))) =
+    let at_j =
     ap (λ x. (e *ℤ pos (n - j)) +ℤ (f *ℤ pos x)) j_is in
     rw at_k (sight_parts e f z i (k - i) (j - k) (n - j) (rw at_i at one) (rw at_j at two))
 
@@ -193,10 +193,10 @@ not_blocked cells line k some inside low_at =
     let part_below = mod_below (toward line.side.from line.side.to n k) n some in
     let all : (n - m) + m ≡ n = omega (arith, part_below) in
     let beside : next ≡ index + line.side.stride = omega arith in
-    let b_in = whole_le line.side n k some (omega arith) in
+    
     low_not_above (get_or cells index None) (get_or cells (index + line.side.stride) None) (n - m) m
     (sight line.from_elevation line.to_elevation n k) (omega (arith, part_below))
-    (λ h is. rw all (low_at b (omega arith) (omega arith) b_in h is))
+    (λ h is. rw all (low_at b (omega arith) (omega arith) (whole_le line.side n k some (omega arith)) h is))
     (λ part h is. rw all (low_at (b + 1) (omega arith) (omega arith)
     (whole_lt line.side n k some (omega arith) part) h (ap (λ x. get_or cells x None) beside ∙ is)))
 
@@ -212,18 +212,18 @@ pub step_passed : (size : ℕ) (cells tops : List (Option ℤ)) (line : Sightlin
 step_passed size cells tops line s i j k block start end some low high few at_start at_end is_top
     in_block is_low =
     let n = steps_of line in
-    let a = whole_at line.lead n k in
+    
     let between = whole_between line.side n i j k some low (omega arith) few in
-    let a_in = whole_le line.lead n k some (omega arith) in
+    
     not_blocked cells line k some (omega arith) (λ cell above below inside h is.
     let top = get_or tops (block * s.lead + cell / size * s.side) None in
-    let is_under = rw in_block at (is_top.above a cell h a_in inside is) in
-    let lows = is_low cell (omega (arith, between, at_start.whole, at_end.whole))
-    (omega (arith, between, at_start.whole, at_end.whole)) inside in
-    let one = rw at_start.sight at (low_height top n _ h is_under lows.0) in
-    let two = rw at_end.sight at (low_height top n _ h is_under lows.1) in
+    let is_under = rw in_block at (is_top.above (whole_at line.lead n k) cell h (whole_le line.lead n k some (omega arith)) inside is) in
+    let lows = is_low cell (omega (arith, between))
+    (omega (arith, between)) inside in
+    
+    
     sight_between line.from_elevation line.to_elevation _ n i j k low (omega arith)
-    few one two)
+    few (rw at_start.sight at (low_height top n _ h is_under lows.0)) (rw at_end.sight at (low_height top n _ h is_under lows.1)))
 
 -- a line at or above the peak at a step and at its end is not blocked from that step on
 pub step_above : (size : ℕ) (cells tops : List (Option ℤ)) (line : Sightline) (s : BlockStrides)
@@ -266,7 +266,7 @@ step_above size cells tops line s peak i k start some low high at_start is_top i
 
 pub block_before : (size r rows : ℕ) → 0 < size → r < rows → r / size < blocks_in size rows
 block_before size r rows some below =
-    let next : (size + r) / size ≡ r / size + 1 = add-div_left r some in
+    let next = add-div_left r some in
     let low = div_le (size + r) (rows + (size - 1)) size some (omega arith) in
     omega (arith, next, low)
 

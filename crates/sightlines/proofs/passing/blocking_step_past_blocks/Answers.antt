@@ -26,8 +26,8 @@ none_above cells tops line s peak k here some within at are is_peak clear =
 
 pub returns-then-is_clear-clause-answer : goal.returns-then-is_clear-clause-answer
 returns-then-is_clear-clause-answer c =
-    let tops = c.args.tops.now in
-    let peak_is = to_z-of_z w64 tops.peak (height_fits _ c.requires.peak.0) in
+    
+    let peak_is = to_z-of_z w64 c.args.tops.now.peak (height_fits _ c.requires.peak.0) in
     sym
     (none_above _ _ _ _ _ 1 _
     (omega arith) (omega arith) c.at-begin.ensures c.requires.far_tops c.requires.peak.1
@@ -36,10 +36,10 @@ returns-then-is_clear-clause-answer c =
 pub returns-in-Some-clause-answer : goal.returns-in-Some-clause-answer
 returns-in-Some-clause-answer c =
     let line = c.args.line in
-    let first = c.block_end-first.result in
+    
     let p = step_blocks c.args.cells.now line.lead line.side line.from_elevation line.to_elevation
     (steps_of line) in
-    sym (any_within p 1 (steps_of line - 1) 1 (first - 1) (omega arith) (omega arith)
+    sym (any_within p 1 (steps_of line - 1) 1 (c.block_end-first.result - 1) (omega arith) (omega arith)
     (sym c.blocking_step.ensures.answer ∙ ap is_some c.in-Some.is))
 
 pub returns-then-is_clear-2-clause-answer : goal.returns-then-is_clear-2-clause-answer
@@ -47,11 +47,11 @@ returns-then-is_clear-2-clause-answer c =
     let line = c.args.line in
     let n = steps_of line in
     let first = c.loop-first.first in
-    let tops = c.args.tops.now in
+    
     let p =
     step_blocks c.args.cells.now line.lead line.side line.from_elevation line.to_elevation n in
     let all : n - 1 ≡ (first - 1) + (n - first) = omega arith in
-    let peak_is = to_z-of_z w64 tops.peak (height_fits _ c.requires.peak.0) in
+    let peak_is = to_z-of_z w64 c.args.tops.now.peak (height_fits _ c.requires.peak.0) in
     let none =
     none_above _ _ line _ _ first _
     (omega arith) (omega arith) c.loop-first.invariant.start c.requires.far_tops c.requires.peak.1
@@ -94,10 +94,10 @@ pub returns-in-Some-blocking_step_past_near_blocks-clause-answer :
 returns-in-Some-blocking_step_past_near_blocks-clause-answer c =
     let line = c.args.line in
     let first = c.loop-first.first in
-    let end = c.block_end-end.result in
+    
     let p = step_blocks c.args.cells.now line.lead line.side line.from_elevation line.to_elevation
     (steps_of line) in
-    sym (any_within p 1 (steps_of line - 1) first (end - first) (omega arith) (omega arith)
+    sym (any_within p 1 (steps_of line - 1) first (c.block_end-end.result - first) (omega arith) (omega arith)
     (sym c.blocking_step_past_near_blocks.ensures.answer
     ∙ ap is_some c.in-Some-blocking_step_past_near_blocks.is))
 
@@ -129,7 +129,7 @@ loop-first-preserved c =
     let p = step_blocks c.args.cells.now line.lead line.side line.from_elevation line.to_elevation
     (steps_of line) in
     let all : end - 1 ≡ (first - 1) + (end - first) = omega arith in
-    let here : whole_at line.lead (steps_of line) first / 128 ≡ block =
+    let here =
     ap (λ x. x / 128) (sym c.lead_at-block.ensures) in
     let low = rw c.deref.ensures.value at
     (OnTrue_at c.if-not-is_clear_of_blocks.false c.is_clear_of_blocks.ensures) in

@@ -37,10 +37,10 @@ pub returns-in-Some-clause-answer : goal.returns-in-Some-clause-answer
 returns-in-Some-clause-answer c =
     let line = c.args.line in
     let step = c.loop-step.step in
-    let past = c.block_end-past.result in
+    
     let p = step_blocks c.args.cells.now line.lead line.side line.from_elevation line.to_elevation
     (steps_of line) in
-    sym (any_within p c.args.first (c.args.end - c.args.first) step (past - step) (omega arith)
+    sym (any_within p c.args.first (c.args.end - c.args.first) step (c.block_end-past.result - step) (omega arith)
     (omega arith) (sym c.blocking_step.ensures.answer ∙ ap is_some c.in-Some.is))
 
 pub loop-step-preserved-in_default : goal.loop-step-preserved-in_default
@@ -71,14 +71,14 @@ loop-step-preserved c =
     let p = step_blocks c.args.cells.now line.lead line.side line.from_elevation line.to_elevation
     (steps_of line) in
     let all : past - first ≡ (step - first) + (past - step) = omega arith in
-    let here : whole_at line.lead (steps_of line) step / 16 ≡ block =
+    let here =
     ap (λ x. x / 16) (sym c.lead_at-block.ensures) in
-    let low = OnTrue_at c.if-not-is_clear_of_blocks.false c.is_clear_of_blocks.ensures in
+    
     let none = none_from p step (past - step) (λ k above below. step_passed 16 _
     _ line _ step past k block _ _
     (omega arith) above (omega arith)
     (omega arith) c.loop-step.invariant.start c.to-next.ensures c.requires.tops
-    (c.block_end-past.ensures.same k above (omega arith) ∙ here) low) in
+    (c.block_end-past.ensures.same k above (omega arith) ∙ here) (OnTrue_at c.if-not-is_clear_of_blocks.false c.is_clear_of_blocks.ensures)) in
     record {
       begun = omega arith;
       within = omega arith;

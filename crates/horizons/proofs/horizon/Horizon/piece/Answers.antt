@@ -8,7 +8,7 @@ use Rattle.horizons.proofs.horizon.Horizon.piece.Goals as goal
 found : (c : goal.After-result-1) →
     slice_get c.self.inside.pieces.items c.first_above-cursor.result ≡ Some c.index.result.now
 found c =
-    let few : c.first_above-cursor.result < length _ =
+    let few =
     rw c.deref.ensures.value at c.first_above-cursor.ensures.inside in
     slice_get_read _ _
     _ _ refl few c.index.ensures
@@ -25,7 +25,7 @@ returns-clause-range c =
 
 pub returns-clause-ramp : goal.returns-clause-ramp
 returns-clause-ramp c i low high =
-    let before : AreUpTo _ _ _ =
+    let before =
     rw c.deref.ensures.value at c.first_above-cursor.ensures.before in
     rw (← c.self.view_is) (ramp_of_piece _ c.first_above-cursor.result
     _ i (found c)
