@@ -17,8 +17,7 @@ pub value_abs : (z : ℤ) → FitsSigned w64 z → unsigned_abs z ≤ 2 ^ 63
 value_abs z fits = omega (arith, ints, fits)
 
 -- A number of 64 bits times one from -4096 to 4096 fits in 128 bits.
-pub product_fits : (z x : ℤ) → unsigned_abs z ≤ 2 ^ 63 → unsigned_abs x ≤ 4096 →
-    FitsSigned w128 (z *ℤ x)
+pub product_fits : (z x : ℤ) → unsigned_abs z ≤ 2 ^ 63 → unsigned_abs x ≤ 4096 → FitsSigned w128 (z *ℤ x)
 product_fits z x h few = fits_signed_mul w128 z x _ 4096 h few (omega arith)
 
 -- The product of z, a number of 64 bits, and x, as the code computes it in 128 bits.
