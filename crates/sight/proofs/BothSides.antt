@@ -21,25 +21,22 @@ rises e g h = omega (arith, ints)
 
 -- the walk to a cell of line n is blocked exactly where a line before line n blocks the cell
 pub lines_block : (cells : List (Option ℤ)) (f : Family) (height n x y : ℕ) → lead_of f n ≡ x →
-    abs_diff f.lines.at x ≡ n
-    → walk_blocks cells (sightline_to cells f height x y)
-    ≡ is_blocked_before cells f n y (rise_at cells f height n y) n
+    abs_diff f.lines.at x ≡ n →
+    walk_blocks cells (sightline_to cells f height x y) ≡ is_blocked_before cells f n y (rise_at cells f height n y) n
 lines_block cells f height n x y at away =
-    let ground : ℕ → ℤ =
-    λ to. unwrap_or (get_or cells (to * f.lines.stride + y * f.side.stride) None) (pos 0) in
+    let ground : ℕ → ℤ = λ to. unwrap_or (get_or cells (to * f.lines.stride + y * f.side.stride) None) (pos 0) in
     let axis : ℕ → Axis = λ to. record { from = f.lines.at; to = to; stride = f.lines.stride } in
-    let high = ap (λ to. ground to +ℤ pos height) (sym at)
-    ∙ rises f.eye (ground (lead_of f n)) (pos height) in
-    walk_is_blocked cells f n y (rise_at cells f height n y) (sightline_to cells f height x y)
-    (ap axis (sym at)) refl refl high away
+    let high = ap (λ to. ground to +ℤ pos height) (sym at) ∙ rises f.eye (ground (lead_of f n)) (pos height) in
+    walk_is_blocked cells f n y (rise_at cells f height n y) (sightline_to cells f height x y) (ap axis (sym at)) refl
+    refl high away
 
 -- a walk of at most one step meets no crossing, so nothing blocks it
-pub none_between : (cells : List (Option ℤ)) (l : Sightline) → steps_of l ≤ 1 →
-    walk_blocks cells l ≡ false
+pub none_between : (cells : List (Option ℤ)) (l : Sightline) → steps_of l ≤ 1 → walk_blocks cells l ≡ false
 none_between cells l few =
     let none : steps_of l - 1 ≡ 0 = omega arith in
-    ap (λ m. list_any (λ k. step_blocks cells l.lead l.side l.from_elevation l.to_elevation
-    (steps_of l) k) (range_with_len 1 m)) none
+    ap (λ m.
+    list_any (λ k. step_blocks cells l.lead l.side l.from_elevation l.to_elevation (steps_of l) k)
+    (range_with_len 1 m)) none
 
 unchanged : (m b : Bool) → b ≡ false → m ≡ (m && not b)
 unchanged true b e = rw e refl
@@ -47,12 +44,13 @@ unchanged false b e = refl
 
 -- after both families, `P` is true of a cell's old and new entry: where the cell is on a line, since
 -- that was met; elsewhere, since nothing blocks a walk of at most one step
-pub both_met : {A : Type 0} (default : A) (Met : Bool → ℕ → ℕ → A → A → Type 0) (f : Family) (w : Extent)
-    (old mid new : List A) → f.lines.at < 4096 → w.lines.first + w.lines.cells ≤ 4096 →
-    AreMet default (Met false) (facing f false) w old mid → AreMet default (Met true) (facing f true) w mid new →
-    (x y : ℕ) → IsInRun w.lines x → IsInRun w.side y → (P : A → A → Type 0) →
-    ((back : Bool) (n : ℕ) → lead_of (facing f back) n ≡ x → abs_diff f.lines.at x ≡ n → (a b : A) →
-    Met back n y a b → P a b) → ((a : A) → abs_diff f.lines.at x ≤ 1 → P a a) →
+pub both_met :
+    {A : Type 0} (default : A) (Met : Bool → ℕ → ℕ → A → A → Type 0) (f : Family) (w : Extent) (old mid new : List A) →
+    f.lines.at < 4096 → w.lines.first + w.lines.cells ≤ 4096 → AreMet default (Met false) (facing f false) w old mid →
+    AreMet default (Met true) (facing f true) w mid new → (x y : ℕ) → IsInRun w.lines x → IsInRun w.side y →
+    (P : A → A → Type 0) →
+    ((back : Bool) (n : ℕ) → lead_of (facing f back) n ≡ x → abs_diff f.lines.at x ≡ n → (a b : A) → Met back n y a b →
+    P a b) → ((a : A) → abs_diff f.lines.at x ≤ 1 → P a a) →
     P (entry_in_extent default w x y old) (entry_in_extent default w x y new)
 both_met {A} default Met f w old mid new few inside one two x y in_x in_y P met stays =
     let at = entry_in_extent default w x y in
@@ -65,9 +63,10 @@ both_met {A} default Met f w old mid new few inside one two x y in_x in_y P met 
             line = (omega arith, omega arith, λ e. absurd cc);
             within = (omega arith, omega arith);
           } in
-          subst (P (at old)) (sym (two.kept x y in_x in_y (λ m c e. omega (arith, e, c.later)))) (met false n line
-              (omega arith) _ _ (subst (λ (z : ℕ). Met false n y (entry_in_extent default w z y old)
-              (entry_in_extent default w z y mid)) line (one.crossed n y crosses in_y)))
+          subst (P (at old)) (sym (two.kept x y in_x in_y (λ m c e. omega (arith, e, c.later))))
+          (met false n line (omega arith) _ _ (subst
+          (λ (z : ℕ). Met false n y (entry_in_extent default w z y old) (entry_in_extent default w z y mid))
+          line (one.crossed n y crosses in_y)))
       | inr not_ahead ↦ elim (cases_lt (x + 1) f.lines.at) [
         | inl behind ↦
             let n = f.lines.at - x in
@@ -77,11 +76,13 @@ both_met {A} default Met f w old mid new few inside one two x y in_x in_y P met 
               line = (omega arith, omega arith, λ e. omega arith);
               within = (omega arith, omega arith);
             } in
-            subst (λ (a : A). P a (at new)) (one.kept x y in_x in_y (λ m c e. omega (arith, e, c.later))) (met true n line
-                (omega arith) _ _ (subst (λ (z : ℕ). Met true n y (entry_in_extent default w z y mid)
-                (entry_in_extent default w z y new)) line (two.crossed n y crosses in_y)))
-        | inr beside ↦ subst (P (at old)) (sym (two.kept x y in_x in_y (λ m c e. omega (arith, e, c.later, c.line.2 refl))
-            ∙ one.kept x y in_x in_y (λ m c e. omega (arith, e)))) (stays (at old) (omega arith))
+            subst (λ (a : A). P a (at new)) (one.kept x y in_x in_y (λ m c e. omega (arith, e, c.later)))
+            (met true n line (omega arith) _ _ (subst (λ (z : ℕ).
+            Met true n y (entry_in_extent default w z y mid) (entry_in_extent default w z y new)) line
+            (two.crossed n y crosses in_y)))
+        | inr beside ↦ subst (P (at old)) (sym (two.kept x y in_x in_y
+            (λ m c e. omega (arith, e, c.later, c.line.2 refl)) ∙
+            one.kept x y in_x in_y (λ m c e. omega (arith, e)))) (stays (at old) (omega arith))
       ]
     ]
 
@@ -93,8 +94,7 @@ both_sides cells f w height old mid new few inside one two = record {
   each = λ x y in_x in_y.
       let walked = walk_blocks cells (sightline_to cells f height x y) in
       both_met false (λ back. IsFlagLeft cells (facing f back) height) f w old mid new few inside one two x y in_x in_y
-          (λ a b. b ≡ (a && not walked))
-          (λ back n at away a b is. is ∙ ap (λ q. a && not q)
-          (sym (lines_block cells (facing f back) height n x y at away)))
-          (λ a near. unchanged a walked (none_between cells (sightline_to cells f height x y) near));
+      (λ a b. b ≡ (a && not walked)) (λ back n at away a b is.
+      is ∙ ap (λ q. a && not q) (sym (lines_block cells (facing f back) height n x y at away)))
+      (λ a near. unchanged a walked (none_between cells (sightline_to cells f height x y) near));
 }

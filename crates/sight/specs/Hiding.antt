@@ -79,15 +79,16 @@ rise_at cells f height n y = (unwrap_or (line_height cells f n y) (pos 0) +ℤ p
 abbrev pub lines_block_at : List (Option ℤ) → Family → ℕ → ℕ → ℕ → Bool
 lines_block_at cells f n y height = is_blocked_before cells f n y (rise_at cells f height n y) n
 
--- In a list with an entry for each cell of the extent, the entry of the cell at coordinates x and y.
+-- The entry of the cell at coordinates x and y, in a list with one for each cell of the extent.
 abbrev pub entry_in_extent : {A : Type 0} → A → Extent → ℕ → ℕ → List A → A
 entry_in_extent default w x y entries = slice_index_or entries (flag_index w x y) default
 
 -- Cells of the extent that are on no line from 2 on keep their entries.
 abbrev pub KeepsOthers : {A : Type 0} → A → Family → Extent → List A → List A → Type 0
 KeepsOthers default f w old new =
-    (x y : ℕ) → IsInRun w.lines x → IsInRun w.side y → ((n : ℕ) → Crosses f w n → lead_of f n ≡ x → ⊥)
-    → entry_in_extent default w x y new ≡ entry_in_extent default w x y old
+    (x y : ℕ) → IsInRun w.lines x → IsInRun w.side y →
+    ((n : ℕ) → Crosses f w n → lead_of f n ≡ x → ⊥) →
+    entry_in_extent default w x y new ≡ entry_in_extent default w x y old
 
 -- `Met` is true of the old and the new entry of each cell y of line n, from line 2 on. All other
 -- cells of the extent keep their entries.

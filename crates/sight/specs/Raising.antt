@@ -9,7 +9,7 @@ use Rattle.sightlines.specs.Sight.{highest_eye, is_open, is_seen}
 use Rattle.sightlines.specs.Walk.{walk_blocks}
 use Rattle.sight.specs.Hiding.{AreMet, IsInRun, flag_in_extent, flag_index, lines_block_at}
 use Rattle.sight.specs.Sides.{sightline_to}
-use Rattle.sight.specs.Sweep.{is_blocked_before, lead_of}
+use Rattle.sight.specs.Sweep.{lead_of}
 use Rattle.sight.specs.declared.family.Family.{Family}
 use Rattle.sight.specs.declared.extent.Extent.{Extent}
 

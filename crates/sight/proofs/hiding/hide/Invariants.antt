@@ -12,5 +12,6 @@ invariant-loop-number l = record {
   some : 0 < l.lookup.line;
   line : (u : ℕ) (t : Target) → l.number ≤ u → slice_get l.ray-items u ≡ Some t →
       l.lookup.line ≤ t.line;
-  flags : AreMetBelow false (IsFlagLeft l.cells l.family l.height) l.family l.extent l.ray-items l.number l.fn.flags l.flags;
+  flags : AreMetBelow false (IsFlagLeft l.cells l.family l.height) l.family l.extent l.ray-items l.number
+      l.fn.flags l.flags;
 }

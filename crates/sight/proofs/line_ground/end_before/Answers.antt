@@ -10,7 +10,6 @@ loop-leap-preserved c =
     let l = c.loop-leap in
     let next = l.low + l.leap in
     let back = back_short c.args.offset (omega arith) in
-    
     let at = slice_get-get_or targets next (record { offset = pos 0; line = 0 }) (omega arith) in
     rw back (record {
       range = (omega arith, omega arith);
@@ -20,9 +19,7 @@ loop-leap-preserved c =
     })
 
 pub returns-then-not-is_before-clause-before : goal.returns-then-not-is_before-clause-before
-returns-then-not-is_before-clause-before c =
-    rw (back_short c.args.offset (omega arith)) at c.bisect.ensures.before
+returns-then-not-is_before-clause-before c = rw (back_short c.args.offset (omega arith)) at c.bisect.ensures.before
 
 pub returns-clause-before : goal.returns-clause-before
-returns-clause-before c =
-    rw (back_short c.args.offset (omega arith)) at c.bisect-2.ensures.before
+returns-clause-before c = rw (back_short c.args.offset (omega arith)) at c.bisect-2.ensures.before

@@ -1,4 +1,3 @@
-use Rattle.std.proofs.Common.{◌≡◌, Some}
 use Rattle.sight.specs.Refusals.{observers_fault}
 use Rattle.sight.proofs.Refused.{not_jobs, refuses}
 use Rattle.sight.proofs.Lowering.{whole_rise}
@@ -13,6 +12,4 @@ returns-in-Some-clause-refusals g c =
     refuses fault _ _ (λ job. not_jobs job t os 0 c.args.radius) reported
 
 pub returns-clause-values : goal.returns-clause-values
-returns-clause-values g c =
-    whole_rise _ _ _ _
-    _ c.requires.given c.in_ok-values.ensures.made
+returns-clause-values g c = whole_rise _ _ _ _ _ c.requires.given c.in_ok-values.ensures.made
