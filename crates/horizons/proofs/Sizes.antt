@@ -17,9 +17,8 @@ pub value_abs : (z : ℤ) → FitsSigned w64 z → unsigned_abs z ≤ 2 ^ 63
 value_abs z fits = omega (arith, ints, fits)
 
 -- A number of 64 bits times one from -4096 to 4096 fits in 128 bits.
-pub product_fits : (z x : ℤ) → unsigned_abs z ≤ 2 ^ 63 → unsigned_abs x ≤ 4096 →
-    FitsSigned w128 (z *ℤ x)
-product_fits z x h few = fits_signed_mul w128 z x (2 ^ 63) 4096 h few (omega arith)
+pub product_fits : (z x : ℤ) → unsigned_abs z ≤ 2 ^ 63 → unsigned_abs x ≤ 4096 → FitsSigned w128 (z *ℤ x)
+product_fits z x h few = fits_signed_mul w128 z x _ 4096 h few (omega arith)
 
 -- The product of z, a number of 64 bits, and x, as the code computes it in 128 bits.
 abbrev pub long_product : ℤ → ℤ → ℤ
@@ -31,4 +30,4 @@ product_is z x fits few =
     let abs = value_abs z fits in
     let product = product_fits z x abs few in
     rw (to_z-of_z w64 z fits, back_long z (omega (arith, abs)), back_long x (omega (arith, few)))
-    (product, to_z-of_z w128 (z *ℤ x) product)
+    (product, to_z-of_z w128 _ product)

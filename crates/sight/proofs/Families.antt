@@ -8,17 +8,21 @@ use Rattle.sight.specs.declared.family.Family.{Family}
 use Rattle.sightlines.specs.declared.walk.Sightline.{Sightline}
 
 pub walk_is_blocked : (cells : List (Option ℤ)) (f : Family) (n y : ℕ) (rise : ℤ) (l : Sightline) →
-    l.lead ≡ lead_axis f n → l.side ≡ side_axis f y → l.from_elevation ≡ f.eye →
-    l.to_elevation ≡ f.eye +ℤ rise → steps_of l ≡ n
-    → walk_blocks cells l ≡ is_blocked_before cells f n y rise n
+    l.lead ≡ lead_axis f n → l.side ≡ side_axis f y → l.from_elevation ≡ f.eye → l.to_elevation ≡ f.eye +ℤ rise →
+    steps_of l ≡ n → walk_blocks cells l ≡ is_blocked_before cells f n y rise n
 walk_is_blocked cells f n y rise l lead side eye target steps =
-    ap (λ m. list_any (λ k. step_blocks cells l.lead l.side l.from_elevation l.to_elevation m k)
-    (range_with_len 1 (m - 1))) steps
-    ∙ ap (λ a. list_any (λ k. step_blocks cells a l.side l.from_elevation l.to_elevation n k)
-    (range_with_len 1 (n - 1))) lead
-    ∙ ap (λ b. list_any (λ k. step_blocks cells (lead_axis f n) b l.from_elevation l.to_elevation
-    n k) (range_with_len 1 (n - 1))) side
-    ∙ ap (λ e. list_any (λ k. step_blocks cells (lead_axis f n) (side_axis f y) e l.to_elevation
-    n k) (range_with_len 1 (n - 1))) eye
-    ∙ ap (λ z. list_any (λ k. step_blocks cells (lead_axis f n) (side_axis f y) f.eye z n k)
-    (range_with_len 1 (n - 1))) target
+    ap (λ m.
+    list_any (λ k. step_blocks cells l.lead l.side l.from_elevation l.to_elevation m k)
+    (range_with_len 1 (m - 1))) steps ∙
+    ap
+    (λ a. list_any (λ k. step_blocks cells a l.side l.from_elevation l.to_elevation n k) (range_with_len 1 (n - 1)))
+    lead ∙
+    ap (λ b.
+    list_any (λ k. step_blocks cells (lead_axis f n) b l.from_elevation l.to_elevation n k)
+    (range_with_len 1 (n - 1))) side ∙
+    ap (λ e.
+    list_any (λ k. step_blocks cells (lead_axis f n) (side_axis f y) e l.to_elevation n k)
+    (range_with_len 1 (n - 1))) eye ∙
+    ap
+    (λ z. list_any (λ k. step_blocks cells (lead_axis f n) (side_axis f y) f.eye z n k) (range_with_len 1 (n - 1)))
+    target

@@ -16,8 +16,8 @@ pub mod Passed
 -- rays in the order of their slopes, and of their lines
 pub mod Ranking
 pub mod Gathered
--- the flags that a family of crossings clears
-pub mod ClearedFlags
+-- the cells that rays lead to, met ray by ray
+pub mod EachRay
 -- a family's lines block exactly what a walk finds blocked
 pub mod Families
 -- the flags that a tile keeps on all sides of an observer

@@ -13,12 +13,10 @@ parts_of_rest : (a b : ℤ) → up (a -ℤ b) + (down a + up b) ≡ down (a -ℤ
 parts_of_rest a b = omega (arith, ints)
 
 pub sum_times : (a b c : ℤ) → (a +ℤ b) *ℤ c ≡ (a *ℤ c) +ℤ (b *ℤ c)
-sum_times a b c = omega
-    (arith, ints, ap (λ z. z * up c) (parts_of_sum a b), ap (λ z. z * down c) (parts_of_sum a b))
+sum_times a b c = omega (arith, ints, ap (λ z. z * up c) (parts_of_sum a b), ap (λ z. z * down c) (parts_of_sum a b))
 
 pub rest_times : (a b c : ℤ) → (a -ℤ b) *ℤ c ≡ (a *ℤ c) -ℤ (b *ℤ c)
-rest_times a b c = omega
-    (arith, ints, ap (λ z. z * up c) (parts_of_rest a b), ap (λ z. z * down c) (parts_of_rest a b))
+rest_times a b c = omega (arith, ints, ap (λ z. z * up c) (parts_of_rest a b), ap (λ z. z * down c) (parts_of_rest a b))
 
 pub times_between : (a b c : ℤ) → (a *ℤ b) *ℤ c ≡ a *ℤ (c *ℤ b)
 times_between a b c = omega (
@@ -36,18 +34,16 @@ times_between a b c = omega (
 
 -- the product of `a`, of size up to 4096, and `n` up to 4096 fits in 32 signed bits. Read from 32
 -- bits, the two numbers have this product.
-pub times_short : (a : ℤ) (n : ℕ) → unsigned_abs a ≤ 4096 → n ≤ 4096 → FitsSigned w32 (a *ℤ pos n)
-    × (to_z w32 (of_z w32 a) *ℤ to_z w32 n ≡ a *ℤ pos n)
+pub times_short : (a : ℤ) (n : ℕ) → unsigned_abs a ≤ 4096 → n ≤ 4096 →
+    FitsSigned w32 (a *ℤ pos n) × (to_z w32 (of_z w32 a) *ℤ to_z w32 n ≡ a *ℤ pos n)
 times_short a n small few = (
   fits_signed_mul w32 a (pos n) 4096 4096 small few (omega arith),
   rw (back_short a (omega arith), to_z_pos w32 n (omega arith)) refl,
 )
 
 -- signed numbers of 32 bits are equal exactly if their bits are
-pub same_short : (a b : ℤ) → FitsSigned w32 a → FitsSigned w32 b →
-    IsTrue (eqb (of_z w32 a) (of_z w32 b)) ↔ (a ≡ b)
+pub same_short : (a b : ℤ) → FitsSigned w32 a → FitsSigned w32 b → IsTrue (eqb (of_z w32 a) (of_z w32 b)) ↔ (a ≡ b)
 same_short a b p q = (
-  λ yes. sym (to_z-of_z w32 a p) ∙ ap (to_z w32) (eqb-true (of_z w32 a) (of_z w32 b) yes)
-      ∙ to_z-of_z w32 b q,
+  λ yes. sym (to_z-of_z w32 a p) ∙ ap (to_z w32) (eqb-true (of_z w32 a) (of_z w32 b) yes) ∙ to_z-of_z w32 b q,
   λ is. eq-eqb (of_z w32 a) (of_z w32 b) (ap (of_z w32) is),
 )

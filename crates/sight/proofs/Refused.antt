@@ -19,8 +19,7 @@ use Rattle.sight.specs.Viewed.{IsFaultless}
 abbrev pub IsNot : {F : Type 0} → F → Option F → Type 0
 IsNot f o = o ≡ Some f → ⊥
 
-pub not_if : {F : Type 0} {f : F} (b : Bool) (x y : Option F) → IsNot f x → IsNot f y →
-    IsNot f (cond b x y)
+pub not_if : {F : Type 0} {f : F} (b : Bool) (x y : Option F) → IsNot f x → IsNot f y → IsNot f (cond b x y)
 not_if true x y p q = p
 not_if false x y p q = q
 
@@ -31,65 +30,59 @@ not_or (Some x) y p q = p
 -- no fault of observers is a fault of jobs
 module _ (f : JobFault) where
   not_eye : (o : Option ℕ) → IsNot (Jobs f) (option_map (λ i. BadEye (Some i)) o)
-  not_eye None e = absurd (cc)
-  not_eye (Some i) e = absurd (cc)
+  not_eye None e = absurd cc
+  not_eye (Some i) e = absurd cc
 
   not_place : (t : Terrain) (i : ℕ) (os : List Observer) → IsNot (Jobs f) (place_fault t i os)
-  not_place t i [] = λ e. absurd (cc)
+  not_place t i [] = λ e. absurd cc
   not_place t i (o ∷ rest) =
-      not_or (place_fault_of t i o) _ (not_if (is_outside t o) _ _ (λ e. absurd (cc))
-      (not_if (is_none (height_at t (place_of o))) _ _ (λ e. absurd (cc)) (λ e. absurd (cc))))
+      not_or _ _ (not_if (is_outside t o) _ _ (λ e. absurd cc)
+      (not_if (is_none (height_at t (place_of o))) _ _ (λ e. absurd cc) (λ e. absurd cc)))
       (not_place t (i + 1) rest)
 
   pub not_jobs : (t : Terrain) (os : List Observer) (target radius : ℕ) →
       IsNot (Jobs f) (observers_fault t os target radius)
   not_jobs t os target radius =
-      not_if (ltb 1024 (length os)) _ _ (λ e. absurd (cc))
-      (not_if (is_high target) _ _ (λ e. absurd (cc))
-      (not_or (option_map (λ i. BadEye (Some i)) (position_from (λ (o : Observer). is_high o.eye)
-      0 os)) _ (not_eye (position_from (λ (o : Observer). is_high o.eye) 0 os))
-      (not_if (ltb radius 1 || ltb 8192 radius) _ _ (λ e. absurd (cc)) (not_place t 0 os))))
+      not_if (ltb 1024 (length os)) _ _ (λ e. absurd cc) (not_if (is_high target) _ _ (λ e. absurd cc)
+      (not_or _ _ (not_eye (position_from (λ (o : Observer). is_high o.eye) 0 os))
+      (not_if (ltb radius 1 || ltb 8192 radius) _ _ (λ e. absurd cc) (not_place t 0 os))))
 
 -- if the first fault is f, and is no fault of jobs, the error f satisfies `RefusesSight`
 pub refuses : {T : Type 0} (fault : Option SightFault) (f : SightFault) (workers : ℕ) →
-    ((job : JobFault) → IsNot (Jobs job) fault) → fault ≡ Some f →
-    RefusesSight {T = T} fault workers (Err f)
+    ((job : JobFault) → IsNot (Jobs job) fault) → fault ≡ Some f → RefusesSight {T = T} fault workers (Err f)
 refuses fault f workers not e = record {
   reported = λ h is. cc;
-  jobs = λ none. absurd (cc);
-  bad_workers = λ none. absurd (cc);
-  no_thread = λ is. absurd (not NoThread (cc));
+  jobs = λ none. absurd cc;
+  bad_workers = λ none. absurd cc;
+  no_thread = λ is. absurd (not NoThread cc);
 }
 
-none_if : {X : Type 0} (b : Bool) (x : X) (rest : Option X) →
-    is_none (cond b (Some x) rest) ≡ true → (b ≡ false) × (is_none rest ≡ true)
-none_if true x rest e = absurd (cc)
+none_if : {X : Type 0} (b : Bool) (x : X) (rest : Option X) → is_none (cond b (Some x) rest) ≡ true →
+    (b ≡ false) × (is_none rest ≡ true)
+none_if true x rest e = absurd cc
 none_if false x rest e = (refl, e)
 
-none_or : {X : Type 0} (a b : Option X) → is_none (option_or a b) ≡ true → (is_none a ≡ true)
-    × (is_none b ≡ true)
+none_or : {X : Type 0} (a b : Option X) → is_none (option_or a b) ≡ true → (is_none a ≡ true) × (is_none b ≡ true)
 none_or None b e = (refl, e)
-none_or (Some x) b e = absurd (cc)
+none_or (Some x) b e = absurd cc
 
-none_map : {X Y : Type 0} (f : X → Y) (a : Option X) → is_none (option_map f a) ≡ true →
-    is_none a ≡ true
+none_map : {X Y : Type 0} (f : X → Y) (a : Option X) → is_none (option_map f a) ≡ true → is_none a ≡ true
 none_map f None e = refl
-none_map f (Some x) e = absurd (cc)
+none_map f (Some x) e = absurd cc
 
-pub no_position : {X : Type 0} (p : X → Bool) (i : ℕ) (xs : List X) → is_none (position_from p i xs)
-    ≡ true → (k : ℕ) (d : X) → k < length xs → p (get_or xs k d) ≡ false
+pub no_position : {X : Type 0} (p : X → Bool) (i : ℕ) (xs : List X) → is_none (position_from p i xs) ≡ true →
+    (k : ℕ) (d : X) → k < length xs → p (get_or xs k d) ≡ false
 no_position p i [] e k d h = absurd (omega arith)
 no_position p i (x ∷ xs) e zero d h = (none_if (p x) i (position_from p (i + 1) xs) e).0
 no_position p i (x ∷ xs) e (suc k) d h =
     no_position p (i + 1) xs (none_if (p x) i (position_from p (i + 1) xs) e).1 k d (omega arith)
 
-inside_from : (t : Terrain) (i : ℕ) (o : Observer) → is_none (place_fault_of t i o) ≡ true →
-    IsInside t (place_of o)
+inside_from : (t : Terrain) (i : ℕ) (o : Observer) → is_none (place_fault_of t i o) ≡ true → IsInside t (place_of o)
 inside_from t i o e =
-    let parts = none_if (is_outside t o) (Outside i)
-    (cond (is_none (height_at t (place_of o))) (Some (OnNodata i)) None) e in
-    let both = and_parts (ltb o.row t.rows) (ltb o.col t.cols)
-    (not-false (ltb o.row t.rows && ltb o.col t.cols) parts.0) in
+    let parts =
+    none_if (is_outside t o) (Outside i) (cond (is_none (height_at t (place_of o))) (Some (OnNodata i)) None) e in
+    let both =
+    and_parts (ltb o.row t.rows) (ltb o.col t.cols) (not-false (ltb o.row t.rows && ltb o.col t.cols) parts.0) in
     (ltb-true o.row t.rows both.0, ltb-true o.col t.cols both.1)
 
 -- if no observer's place has a fault, all observers are inside the grid
@@ -98,8 +91,8 @@ no_place_fault : (t : Terrain) (i : ℕ) (os : List Observer) → is_none (place
 no_place_fault t i [] e k d h = absurd (omega arith)
 no_place_fault t i (o ∷ rest) e zero d h =
     inside_from t i o (none_or (place_fault_of t i o) (place_fault t (i + 1) rest) e).0
-no_place_fault t i (o ∷ rest) e (suc k) d h = no_place_fault t (i
-    + 1) rest (none_or (place_fault_of t i o) (place_fault t (i + 1) rest) e).1 k d (omega arith)
+no_place_fault t i (o ∷ rest) e (suc k) d h =
+    no_place_fault t (i + 1) rest (none_or (place_fault_of t i o) (place_fault t (i + 1) rest) e).1 k d (omega arith)
 
 pub record Lawful (t : Terrain) (os : List Observer) (target radius : ℕ) : Type 0 where
   pub few : length os ≤ 1024
@@ -109,18 +102,19 @@ pub record Lawful (t : Terrain) (os : List Observer) (target radius : ℕ) : Typ
   pub short_radius : radius ≤ 8192
   pub inside : (k : ℕ) (d : Observer) → k < length os → IsInside t (place_of (get_or os k d))
 
-pub lawful_from : (t : Terrain) (os : List Observer) (target radius : ℕ) →
-    IsFaultless t os target radius → Lawful t os target radius
+pub lawful_from : (t : Terrain) (os : List Observer) (target radius : ℕ) → IsFaultless t os target radius →
+    Lawful t os target radius
 lawful_from t os target radius e =
-    let eyes =
-    option_map (λ i. BadEye (Some i)) (position_from (λ (o : Observer). is_high o.eye) 0 os) in
+    let eyes = option_map (λ i. BadEye (Some i)) (position_from (λ (o : Observer). is_high o.eye) 0 os) in
     let reach = cond (ltb radius 1 || ltb 8192 radius) (Some BadRadius) (place_fault t 0 os) in
-    let many = none_if (ltb 1024 (length os)) TooManyObservers
+    let many =
+    none_if (ltb 1024 (length os)) TooManyObservers
     (cond (is_high target) (Some (BadEye None)) (option_or eyes reach)) e in
     let high = none_if (is_high target) (BadEye None) (option_or eyes reach) many.1 in
     let rest = none_or eyes reach high.1 in
-    let low = no_position (λ (o : Observer). is_high o.eye) 0 os (none_map (λ i. BadEye (Some i))
-    (position_from (λ (o : Observer). is_high o.eye) 0 os) rest.0) in
+    let low =
+    no_position (λ (o : Observer). is_high o.eye) 0 os
+    (none_map (λ i. BadEye (Some i)) (position_from (λ (o : Observer). is_high o.eye) 0 os) rest.0) in
     let far = none_if (ltb radius 1 || ltb 8192 radius) BadRadius (place_fault t 0 os) rest.1 in
     let ends = or_parts (ltb radius 1) (ltb 8192 radius) far.0 in
     record {

@@ -75,19 +75,35 @@ line_height cells f n y =
 abbrev pub rise_at : List (Option ℤ) → Family → ℕ → ℕ → ℕ → ℤ
 rise_at cells f height n y = (unwrap_or (line_height cells f n y) (pos 0) +ℤ pos height) -ℤ f.eye
 
--- The new flag of cell y of line n: the old one, unless a line before line n blocks the cell.
-abbrev pub flag_left : List (Option ℤ) → Family → Extent → ℕ → List Bool → ℕ → ℕ → Bool
-flag_left cells f w height old n y =
-    flag_in_extent w (lead_of f n) y old
-    && not (is_blocked_before cells f n y (rise_at cells f height n y) n)
+-- A line before line n blocks a target at this height above cell y of line n.
+abbrev pub lines_block_at : List (Option ℤ) → Family → ℕ → ℕ → ℕ → Bool
+lines_block_at cells f n y height = is_blocked_before cells f n y (rise_at cells f height n y) n
 
--- A cell on line 2 or beyond keeps its flag unless a line before its own blocks the cell. All other
--- cells of the extent keep their flags.
-pub record AreHidden (cells : List (Option ℤ)) (f : Family) (w : Extent) (height : ℕ)
-    (old new : List Bool) : Type 0 where
+-- The entry of the cell at coordinates x and y, in a list with one for each cell of the extent.
+abbrev pub entry_in_extent : {A : Type 0} → A → Extent → ℕ → ℕ → List A → A
+entry_in_extent default w x y entries = slice_index_or entries (flag_index w x y) default
+
+-- Cells of the extent that are on no line from 2 on keep their entries.
+abbrev pub KeepsOthers : {A : Type 0} → A → Family → Extent → List A → List A → Type 0
+KeepsOthers default f w old new =
+    (x y : ℕ) → IsInRun w.lines x → IsInRun w.side y →
+    ((n : ℕ) → Crosses f w n → lead_of f n ≡ x → ⊥) →
+    entry_in_extent default w x y new ≡ entry_in_extent default w x y old
+
+-- `Met` is true of the old and the new entry of each cell y of line n, from line 2 on. All other
+-- cells of the extent keep their entries.
+pub record AreMet {A : Type 0} (default : A) (Met : ℕ → ℕ → A → A → Type 0) (f : Family)
+    (w : Extent) (old new : List A) : Type 0 where
   pub size : length new ≡ length old
   pub crossed : (n y : ℕ) → Crosses f w n → IsInRun w.side y →
-      flag_in_extent w (lead_of f n) y new ≡ flag_left cells f w height old n y
-  pub kept : (x y : ℕ) → IsInRun w.lines x → IsInRun w.side y →
-      ((n : ℕ) → Crosses f w n → lead_of f n ≡ x → ⊥) →
-      flag_in_extent w x y new ≡ flag_in_extent w x y old
+      Met n y (entry_in_extent default w (lead_of f n) y old)
+      (entry_in_extent default w (lead_of f n) y new)
+  pub kept : KeepsOthers default f w old new
+
+-- The new flag of cell y of line n: the old one, unless a line before line n blocks the cell.
+abbrev pub IsFlagLeft : List (Option ℤ) → Family → ℕ → ℕ → ℕ → Bool → Bool → Type 0
+IsFlagLeft cells f height n y old new = new ≡ (old && not (lines_block_at cells f n y height))
+
+-- A cell on line 2 or beyond keeps its flag unless a line before its own blocks the cell.
+abbrev pub AreHidden : List (Option ℤ) → Family → Extent → ℕ → List Bool → List Bool → Type 0
+AreHidden cells f w height = AreMet false (IsFlagLeft cells f height) f w

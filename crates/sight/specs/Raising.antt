@@ -7,9 +7,9 @@ use Rattle.terrain.specs.declared.place.Place.{Place}
 use Rattle.terrain.specs.declared.observer.Observer.{Observer}
 use Rattle.sightlines.specs.Sight.{highest_eye, is_open, is_seen}
 use Rattle.sightlines.specs.Walk.{walk_blocks}
-use Rattle.sight.specs.Hiding.{Crosses, IsInRun, flag_in_extent, flag_index, rise_at}
+use Rattle.sight.specs.Hiding.{AreMet, IsInRun, flag_in_extent, flag_index, lines_block_at}
 use Rattle.sight.specs.Sides.{sightline_to}
-use Rattle.sight.specs.Sweep.{is_blocked_before, lead_of}
+use Rattle.sight.specs.Sweep.{lead_of}
 use Rattle.sight.specs.declared.family.Family.{Family}
 use Rattle.sight.specs.declared.extent.Extent.{Extent}
 
@@ -21,10 +21,6 @@ pub record IsRaised (blocked : ℕ → Bool) (old new : ℕ) : Type 0 where
   pub clear : new ≤ highest_eye → blocked new ≡ false
   pub hidden : old < new → blocked (new - 1) ≡ true
 
--- A line before line n blocks a target at this height above cell y of line n.
-abbrev pub lines_block_at : List (Option ℤ) → Family → ℕ → ℕ → ℕ → Bool
-lines_block_at cells f n y height = is_blocked_before cells f n y (rise_at cells f height n y) n
-
 -- The height of the target at coordinates x and y.
 abbrev pub target_in_extent : Extent → ℕ → ℕ → List ℕ → ℕ
 target_in_extent w x y targets = slice_index targets (flag_index w x y)
@@ -33,19 +29,16 @@ target_in_extent w x y targets = slice_index targets (flag_index w x y)
 abbrev pub AreTargetHeights : List ℕ → Type 0
 AreTargetHeights targets = (k : ℕ) → slice_index targets k ≤ highest_eye + 1
 
--- The target of a flagged cell on line 2 or beyond is raised over the lines before its own. Other
--- cells that are on no such line keep their targets.
+-- The target of cell y of line n, if flagged, is raised over the lines before line n.
+abbrev pub IsRaisedIn : List (Option ℤ) → Family → Extent → List Bool → ℕ → ℕ → ℕ → ℕ → Type 0
+IsRaisedIn cells f w flags n y old new =
+    flag_in_extent w (lead_of f n) y flags ≡ true → IsRaised (lines_block_at cells f n y) old new
+
+-- The target of a flagged cell on line 2 or beyond is raised over the lines before its own.
 pub record AreRaised (cells : List (Option ℤ)) (f : Family) (w : Extent) (flags : List Bool)
     (old new : List ℕ) : Type 0 where
-  pub size : length new ≡ length old
   pub most : AreTargetHeights new
-  pub crossed : (n y : ℕ) → Crosses f w n → IsInRun w.side y →
-      flag_in_extent w (lead_of f n) y flags ≡ true →
-      IsRaised (lines_block_at cells f n y) (target_in_extent w (lead_of f n) y old)
-      (target_in_extent w (lead_of f n) y new)
-  pub kept : (x y : ℕ) → IsInRun w.lines x → IsInRun w.side y →
-      ((n : ℕ) → Crosses f w n → lead_of f n ≡ x → ⊥) →
-      target_in_extent w x y new ≡ target_in_extent w x y old
+  pub met : AreMet 0 (IsRaisedIn cells f w flags) f w old new
 
 -- The target of a flagged cell is raised over the lines on either side of the observer.
 pub record AreClear (cells : List (Option ℤ)) (f : Family) (w : Extent) (flags : List Bool)

@@ -10,9 +10,10 @@ use Rattle.sightlines.specs.Walk.{AreHeights}
 
 pub are_heights : (t : Terrain) → IsTerrain t → AreHeights t.cells
 are_heights t is i h at = elim (cases_lt i (length t.cells)) [
-  | inl within ↦
-      rw at at (All-get_or (λ (c : Option ℤ). IfSome c IsHeight) t.cells i None within is.heights)
-  | inr past ↦ let none = get_or_past t.cells i None past in absurd (cc)
+  | inl within ↦ rw at at (All-get_or (λ (c : Option ℤ). IfSome c IsHeight) t.cells i None within is.heights)
+  | inr past ↦
+      let none = get_or_past t.cells i None past in
+      absurd cc
 ]
 
 pub ground_is_height : (height : Option ℤ) → ((h : ℤ) → height ≡ Some h → IsHeight h) →
@@ -33,10 +34,9 @@ has_height cells index {cell = cell} read same is below =
     sym (read ∙ get_or_default cells index cell None below) ∙ sym same ∙ is
 
 -- a height times a weight of at most 4096, as the code computes it, fits in 64 bits and is exact
-pub weighed_is : (h : ℤ) (n : ℕ) → n ≤ 4096 → IsHeight h → let z =
-    to_z w64 n *ℤ to_z w64 (of_z w64 h) in FitsSigned w64 z × (to_z w64 (of_z w64 z) ≡ pos n *ℤ h)
+pub weighed_is : (h : ℤ) (n : ℕ) → n ≤ 4096 → IsHeight h →
+    let z = to_z w64 n *ℤ to_z w64 (of_z w64 h) in
+    FitsSigned w64 z × (to_z w64 (of_z w64 z) ≡ pos n *ℤ h)
 weighed_is h n few is =
-    let fits =
-    fits_signed_mul w64 (pos n) h 4096 (10 ^ 15) few (omega (arith, ints, is)) (omega arith) in
-    rw (to_z_pos w64 n (omega arith), to_z-of_z w64 h (height_fits h is))
-    (fits, to_z-of_z w64 (pos n *ℤ h) fits)
+    let fits = fits_signed_mul w64 (pos n) h 4096 (10 ^ 15) few (omega (arith, ints, is)) (omega arith) in
+    rw (to_z_pos w64 n (omega arith), to_z-of_z w64 h (height_fits h is)) (fits, to_z-of_z w64 (pos n *ℤ h) fits)

@@ -15,8 +15,9 @@ abbrev pub up : ℕ → Option ℤ
 up n = Some (pos n)
 
 abbrev pub hidden : Terrain
-hidden = land 4 3 (up 0 ∷ Some (negsuc 8) ∷ up 0 ∷ up 0 ∷ up 0 ∷ up 4 ∷ up 1 ∷ up 0 ∷ up 0 ∷ up 0
-    ∷ Some (negsuc 8) ∷ up 0 ∷ [])
+hidden =
+    land 4 3
+    (up 0 ∷ Some (negsuc 8) ∷ up 0 ∷ up 0 ∷ up 0 ∷ up 4 ∷ up 1 ∷ up 0 ∷ up 0 ∷ up 0 ∷ Some (negsuc 8) ∷ up 0 ∷ [])
 
 -- (2,3) is hidden from (0,0) by the row crossing alone: twice the ground is 5, twice the line's
 -- elevation 0

@@ -11,80 +11,69 @@ use Rattle.sightlines.specs.Walk.{walk_blocks, over_columns, over_rows, IsElevat
 use Rattle.terrain.specs.declared.observer.Observer.{Observer}
 use Rattle.sightlines.proofs.Crossings.{column_blocks-walk, row_blocks-walk, columns_in_list, rows_in_list, walk_back}
 
-seen_is : (t : Terrain) (o : Observer) (q : Place) (target radius : ℕ) (from to : ℤ) →
-    IsInside t (place_of o) → IsInside t q
-    → height_at t (place_of o) ≡ Some from → height_at t q ≡ Some to →
-    is_near (place_of o) q radius ≡ true
-    → let p = place_of o in let e = from +ℤ pos o.eye in let f = to +ℤ pos target in
-    is_seen t o q target radius ≡ (not (walk_blocks t.cells (over_columns t q p f e))
-    && not (walk_blocks t.cells (over_rows t q p f e)))
+seen_is : (t : Terrain) (o : Observer) (q : Place) (target radius : ℕ) (from to : ℤ) → IsInside t (place_of o) →
+    IsInside t q → height_at t (place_of o) ≡ Some from → height_at t q ≡ Some to →
+    is_near (place_of o) q radius ≡ true →
+    let p = place_of o in
+    let e = from +ℤ pos o.eye in
+    let f = to +ℤ pos target in
+    is_seen t o q target radius ≡
+    (not (walk_blocks t.cells (over_columns t q p f e)) && not (walk_blocks t.cells (over_rows t q p f e)))
 seen_is t o q target radius from to a b from_is to_is near =
     let p = place_of o in
     let e = from +ℤ pos o.eye in
     let f = to +ℤ pos target in
-    let cs = column_blocks-walk t p q e f a b in
-    let rs = row_blocks-walk t p q e f a b in
-    let back_columns = walk_back t.cells (over_columns t p q e f) in
-    let back_rows = walk_back t.cells (over_rows t p q e f) in
-    rw (from_is, to_is, near, cs, rs, back_columns, back_rows) refl
+    rw (
+      from_is,
+      to_is,
+      near,
+      column_blocks-walk t p q e f a b,
+      row_blocks-walk t p q e f a b,
+      walk_back t.cells (over_columns t p q e f),
+      walk_back t.cells (over_rows t p q e f),
+    ) refl
 
 out_of_reach : (a b c : Bool) → (a && b && false && c) ≡ false
 out_of_reach false b c = refl
 out_of_reach true true c = refl
 out_of_reach true false c = refl
 
-pub unseen : (t : Terrain) (o : Observer) (q : Place) (target radius : ℕ) →
-    is_near (place_of o) q radius ≡ false → is_seen t o q target radius ≡ false
-unseen t o q target radius far =
-    rw far (out_of_reach (is_some (height_at t (place_of o))) (is_some (height_at t q)) _)
+pub unseen : (t : Terrain) (o : Observer) (q : Place) (target radius : ℕ) → is_near (place_of o) q radius ≡ false →
+    is_seen t o q target radius ≡ false
+unseen t o q target radius far = rw far (out_of_reach (is_some (height_at t (place_of o))) (is_some (height_at t q)) _)
 
 reached_is : (t : Terrain) (o : Observer) (q : Place) (target radius : ℕ) (from to : ℤ) →
-    height_at t (place_of o) ≡ Some from → height_at t q ≡ Some to →
-    is_near (place_of o) q radius ≡ true
-    → is_seen t o q target radius ≡ is_open t o q target
+    height_at t (place_of o) ≡ Some from → height_at t q ≡ Some to → is_near (place_of o) q radius ≡ true →
+    is_seen t o q target radius ≡ is_open t o q target
 reached_is t o q target radius from to from_is to_is near = rw (from_is, to_is, near) refl
 
-small : (t : Terrain) (p q : Place) (e f : ℤ) → IsTerrain t → IsInside t p → IsInside t q →
-    IsElevation e → IsElevation f → IsSightline (over_columns t q p f e)
-    × IsSightline (over_rows t q p f e)
+small : (t : Terrain) (p q : Place) (e f : ℤ) → IsTerrain t → IsInside t p → IsInside t q → IsElevation e →
+    IsElevation f → IsSightline (over_columns t q p f e) × IsSightline (over_rows t q p f e)
 small t p q e f is a b e_elevation f_elevation = (
   record {
-    ends = (
-      omega (arith, is.few_cols),
-      omega (arith, is.few_cols),
-      omega (arith, is.few_rows),
-      omega (arith, is.few_rows),
-    );
+    ends = (omega arith, omega arith, omega arith, omega arith);
     strides = (omega arith, is.few_cols);
     from_elevation = f_elevation;
     to_elevation = e_elevation;
   },
   record {
-    ends = (
-      omega (arith, is.few_rows),
-      omega (arith, is.few_rows),
-      omega (arith, is.few_cols),
-      omega (arith, is.few_cols),
-    );
+    ends = (omega arith, omega arith, omega arith, omega arith);
     strides = (is.few_cols, omega arith);
     from_elevation = f_elevation;
     to_elevation = e_elevation;
   },
 )
 
-pub lines_are : (t : Terrain) (o : Observer) (q : Place) (target radius : ℕ) (from to : ℤ) →
-    IsTerrain t → IsInside t (place_of o) → IsInside t q
-    → height_at t (place_of o) ≡ Some from → height_at t q ≡ Some to →
-    is_near (place_of o) q radius ≡ true →
-    IsElevation (from +ℤ pos o.eye) → IsElevation (to +ℤ pos target)
-    → let p = place_of o in let e = from +ℤ pos o.eye in let f = to +ℤ pos target in
-    AreSightlines t o q target radius
-    (record { columns = over_columns t q p f e; rows = over_rows t q p f e })
-lines_are t o q target radius from to is a b from_is to_is near e_elevation f_elevation =
+pub lines_are : (t : Terrain) (o : Observer) (q : Place) (target radius : ℕ) (from to : ℤ) → IsTerrain t →
+    IsInside t (place_of o) → IsInside t q → height_at t (place_of o) ≡ Some from → height_at t q ≡ Some to →
+    is_near (place_of o) q radius ≡ true → IsElevation (from +ℤ pos o.eye) → IsElevation (to +ℤ pos target) →
     let p = place_of o in
     let e = from +ℤ pos o.eye in
     let f = to +ℤ pos target in
-    let are_small = small t p q e f is a b e_elevation f_elevation in
+    AreSightlines t o q target radius (record { columns = over_columns t q p f e; rows = over_rows t q p f e })
+lines_are t o q target radius from to is a b from_is to_is near e_elevation f_elevation =
+    let p = place_of o in
+    let are_small = small t p q (from +ℤ pos o.eye) (to +ℤ pos target) is a b e_elevation f_elevation in
     record {
       columns = rw (from_is, to_is) refl;
       rows = rw (from_is, to_is) refl;

@@ -9,8 +9,7 @@ offset_bounds-pieces-piece c = omega (
 )
 
 pub bounds-pieces-piece : goal.bounds-pieces-piece
-bounds-pieces-piece c =
-    inside c.args.pieces.now c.loop-piece.piece c.args.index c.loop-piece.invariant c.requires.index
+bounds-pieces-piece c = inside _ _ c.args.index c.loop-piece.invariant c.requires.index
 
 pub overflow_add-piece : goal.overflow_add-piece
 overflow_add-piece c = omega (
@@ -26,10 +25,8 @@ loop-piece-smaller c = omega (
 
 pub loop-piece-preserved : goal.loop-piece-preserved
 loop-piece-preserved c =
-    passed c.args.pieces.now c.loop-piece.piece c.args.index _ c.loop-piece.invariant
-    (inside c.args.pieces.now c.loop-piece.piece c.args.index c.loop-piece.invariant
-    c.requires.index) c.loop-piece-test.true
+    passed _ _ _ _ c.loop-piece.invariant (inside _ _ c.args.index c.loop-piece.invariant c.requires.index)
+    c.loop-piece-test.true
 
 pub returns-clause-above : goal.returns-clause-above
-returns-clause-above c p at =
-    ends_above c.args.pieces.now c.loop-piece.piece c.args.index _ p c.loop-piece-test.false at
+returns-clause-above c p at = ends_above c.args.pieces.now c.loop-piece.piece _ _ p c.loop-piece-test.false at

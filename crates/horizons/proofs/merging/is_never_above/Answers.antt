@@ -7,10 +7,7 @@ use Rattle.horizons.proofs.merging.is_never_above.Goals as goal
 pub returns : goal.returns
 returns c =
     let targets = c.args.targets.now in
-    OnTrue_from (not c.is_above_at-2.result)
-    (IsAboveOn targets c.args.one c.args.other false c.args.from c.args.end) (λ yes i t low high at.
-    even_between targets c.args.one c.args.other false c.args.from (c.args.end
-    - 1) c.requires.targets (omega arith) (omega arith)
-    (λ u at_u. c.is_above_at.ensures u at_u ∙ c.if-is_above_at.false)
-    (λ u at_u. c.is_above_at-2.ensures u at_u ∙ not-true c.is_above_at-2.result yes)
-    i t low (omega arith) at)
+    OnTrue_from (not _) (IsAboveOn targets c.args.one c.args.other false _ _) (λ yes i t low high at.
+    even_between targets c.args.one c.args.other false _ (c.args.end - 1) c.requires.targets (omega arith)
+    (omega arith) (λ u at_u. c.is_above_at.ensures u at_u ∙ c.if-is_above_at.false)
+    (λ u at_u. c.is_above_at-2.ensures u at_u ∙ not-true _ yes) i t low (omega arith) at)

@@ -9,11 +9,10 @@ loop-past-preserved-then-is_before c =
     let targets = c.args.targets.now in
     let l = c.loop-past in
     let middle = l.before + (l.past - l.before) / 2 in
-    let back = back_short c.args.offset (omega (arith, c.requires.offset)) in
-    let reported = rw back at c.is_before.ensures in
+    let back = back_short c.args.offset (omega arith) in
     let at = slice_get-get_or targets middle (record { offset = pos 0; line = 0 }) (omega arith) in
     rw back (record {
       range = (omega arith, omega arith, omega arith);
-      before = before_to targets c.args.line middle c.args.offset _ c.requires.targets at
-          (reported.0 c.if-is_before.true);
+      before =
+          before_to targets _ middle _ _ c.requires.targets at ((rw back at c.is_before.ensures).0 c.if-is_before.true);
     })

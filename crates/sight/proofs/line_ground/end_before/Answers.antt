@@ -9,20 +9,17 @@ loop-leap-preserved c =
     let targets = c.args.targets.now in
     let l = c.loop-leap in
     let next = l.low + l.leap in
-    let back = back_short c.args.offset (omega (arith, c.requires.offset)) in
-    let reported = rw back at c.is_before.ensures in
+    let back = back_short c.args.offset (omega arith) in
     let at = slice_get-get_or targets next (record { offset = pos 0; line = 0 }) (omega arith) in
     rw back (record {
       range = (omega arith, omega arith);
       leap = (omega arith, omega arith);
-      before = before_to targets c.args.line next c.args.offset _ c.requires.targets at
-          (reported.0 c.if-not-is_before.false);
+      before = before_to targets _ next _ _ c.requires.targets at
+          ((rw back at c.is_before.ensures).0 c.if-not-is_before.false);
     })
 
 pub returns-then-not-is_before-clause-before : goal.returns-then-not-is_before-clause-before
-returns-then-not-is_before-clause-before c =
-    rw (back_short c.args.offset (omega (arith, c.requires.offset))) at c.bisect.ensures.before
+returns-then-not-is_before-clause-before c = rw (back_short c.args.offset (omega arith)) at c.bisect.ensures.before
 
 pub returns-clause-before : goal.returns-clause-before
-returns-clause-before c =
-    rw (back_short c.args.offset (omega (arith, c.requires.offset))) at c.bisect-2.ensures.before
+returns-clause-before c = rw (back_short c.args.offset (omega arith)) at c.bisect-2.ensures.before

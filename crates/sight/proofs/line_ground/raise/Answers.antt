@@ -1,16 +1,14 @@
 use Rattle.std.proofs.Common.{arith}
 use Rattle.horizons.proofs.Pieces.{later}
-use Rattle.sight.specs.Sweep.{cleared_to}
 use Rattle.sight.proofs.Laid.{low_raised, more_raised, hidden_raised}
 use Rattle.sight.proofs.line_ground.raise.Goals as goal
 
 pub loop-from-init : goal.loop-from-init
 loop-from-init c =
-    let raised = low_raised c.args.cells.now c.args.family c.args.targets.now
-    c.args.line c.count_before_side-from.result c.args.highest.now c.passed_ramp.result
-    c.clear.new.self
-    c.push.new.self c.clear.ensures c.requires.family c.requires.targets c.in_ok-push.ensures
-    c.count_before_side-from.ensures.before c.passed_ramp.ensures.at c.passed_ramp.ensures.clear in
+    let raised =
+    low_raised c.args.cells.now _ _ _ _ c.args.highest.now _ _ _ c.clear.ensures c.requires.family
+    c.requires.targets c.in_ok-push.ensures c.count_before_side-from.ensures.before c.passed_ramp.ensures.at
+    c.passed_ramp.ensures.clear in
     record {
       within = c.count_before_side-from.ensures.range;
       target_count = raised.0;
@@ -26,21 +24,16 @@ pub loop-from-preserved-in_ok-push-2 : goal.loop-from-preserved-in_ok-push-2
 loop-from-preserved-in_ok-push-2 c =
     let l = c.loop-from in
     let highest = c.args.highest.now in
-    let piece = c.piece-piece.result in
-    let end = c.in-Some.end in
     let clear = c.in-Some.ensures in
-    let pushed = rw c.cleared_to.ensures at c.in_ok-push-2.ensures in
-    let raised = more_raised c.args.cells.now c.args.family c.args.targets.now c.args.line
-    l.from piece.end highest (cleared_to piece.ramp end) l.raised c.push-in-Some.new.self
-    l.invariant.target_count c.piece-piece.ensures.range.0 pushed l.invariant.raises
-    (λ i t low high at. hidden_raised c.args.cells.now c.args.family
-    c.args.targets.now c.args.line end i l.from piece.end highest piece.ramp t c.requires.highest
+    let raised =
+    more_raised _ _ _ _ _ _ highest _ _ _ l.invariant.target_count c.piece-piece.ensures.range.0
+    (rw c.cleared_to.ensures at c.in_ok-push-2.ensures) l.invariant.raises
+    (λ i t low high at.
+    hidden_raised _ _ _ _ c.in-Some.end i _ _ highest _ t c.requires.highest
     (c.piece-piece.ensures.ramp i low high) clear.0 clear.1 low high at) in
     record {
       within = omega (arith, c.piece-piece.ensures.range, c.requires.highest.whole);
       target_count = raised.0;
-      cursor =
-          later highest c.piece-piece.new.cursor.piece l.from piece.end c.piece-piece.ensures.cursor
-          (omega (arith, c.piece-piece.ensures.range));
+      cursor = later highest _ _ _ c.piece-piece.ensures.cursor (omega (arith, c.piece-piece.ensures.range));
       raises = raised.1;
     }

@@ -14,12 +14,9 @@ returns c =
     let w = extent_of c.args.lines c.args.side in
     let flags = c.args.flags.now in
     let back = to_z-of_z w64 c.args.eye (search rules) in
-    let one : AreRaised cells f w flags c.args.targets.now c.raise_over.new.targets =
-    rw (c.family_of-family.ensures, back) at c.in_ok-raise_over.ensures in
-    on_ok_weaker c.raise_over-2.result
-    (λ (raised : AreRaised cells (facing f true) w flags c.raise_over.new.targets
-    c.raise_over-2.new.targets).
-    both_sides_raised cells f w flags c.args.targets.now c.raise_over.new.targets
-    c.raise_over-2.new.targets c.requires.lines.at c.requires.lines.tile c.requires.targets one
-    raised)
+    let one = rw (c.family_of-family.ensures, back) at c.in_ok-raise_over.ensures in
+    on_ok_weaker c.raise_over-2.result (
+    λ (raised : AreRaised cells (facing f true) w flags c.raise_over.new.targets c.raise_over-2.new.targets).
+    both_sides_raised cells f w flags c.args.targets.now c.raise_over.new.targets c.raise_over-2.new.targets
+    c.requires.lines.at c.requires.lines.tile c.requires.targets one raised)
     (rw (c.reverse.ensures, c.family_of-family.ensures, back) at c.raise_over-2.ensures)

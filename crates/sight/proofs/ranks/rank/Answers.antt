@@ -1,4 +1,4 @@
-use Rattle.std.proofs.Common.{arith, sym, ap, ◌∙◌, ◌≡◌, true, is_ok, List, get_or, pos}
+use Rattle.std.proofs.Common.{arith, sym, ap, ◌∙◌, List, get_or, pos}
 use Rattle.std.specs.Prelude.{slice_get}
 use Rattle.std.proofs.lemmas.Option.{slice_get-get_or}
 use Rattle.horizons.specs.declared.target.Target.{Target}
@@ -11,11 +11,11 @@ loop-rank-preserved c =
     let number = c.index-number.result in
     let t = get_or rays number (record { offset = pos 0; line = 0 }) in
     let at = slice_get-get_or rays number (record { offset = pos 0; line = 0 }) (omega arith) in
-    let ok : is_ok c.push.result ≡ true = sym c.in_ok-map_err.ensures.variant in
-    rw (rw ok at c.push.ensures.items) (ranks_more c.loop-rank.rank number rays
-    c.loop-rank.targets.items c.loop-rank.ranks.items t (c.requires.each number t at) at
-    c.loop-rank.invariant)
+    let ok = sym c.in_ok-map_err.ensures.variant in
+    rw (rw ok at c.push.ensures.items)
+    (ranks_more _ number rays _ _ t (c.requires.each number t at) at c.loop-rank.invariant)
 
 pub are_sorted-requires : goal.are_sorted-requires
-are_sorted-requires c i t at = c.loop-rank.invariant.each i t
+are_sorted-requires c i t at =
+    c.loop-rank.invariant.each i t
     (ap (λ (xs : List Target). slice_get xs i) (sym c.deref-else-contains.ensures.value) ∙ at)

@@ -13,11 +13,9 @@ returns c =
     let f = family_of c.args.lines c.args.side c.args.eye in
     let w = extent_of c.args.lines c.args.side in
     let back = to_z-of_z w64 c.args.eye (search rules) in
-    let one : AreHidden cells f w c.args.height c.args.flags.now c.hide.new.flags =
-    rw (c.family_of-family.ensures, back) at c.in_ok-hide.ensures in
-    on_ok_weaker c.hide-2.result
-    (λ (hidden : AreHidden cells (facing f true) w c.args.height c.hide.new.flags
-    c.hide-2.new.flags).
-    both_sides cells f w c.args.height c.args.flags.now c.hide.new.flags c.hide-2.new.flags
-    c.requires.lines.at c.requires.lines.tile one hidden)
+    let one = rw (c.family_of-family.ensures, back) at c.in_ok-hide.ensures in
+    on_ok_weaker c.hide-2.result (
+    λ (hidden : AreHidden cells (facing f true) w c.args.height c.hide.new.flags c.hide-2.new.flags).
+    both_sides cells f w c.args.height c.args.flags.now c.hide.new.flags c.hide-2.new.flags c.requires.lines.at
+    c.requires.lines.tile one hidden)
     (rw (c.reverse.ensures, c.family_of-family.ensures, back) at c.hide-2.ensures)

@@ -6,6 +6,5 @@ use Rattle.sight.proofs.tops.near_tops.Goals as goal
 pub returns-clause-tops : goal.returns-clause-tops
 returns-clause-tops g c =
     let blocks = c.args.blocks.now in
-    let t = ground_of blocks.cols blocks.rows blocks.cells.now in
-    made_tops 16 t c.in_ok-near.near.items (omega arith)
+    made_tops 16 (ground_of blocks.cols blocks.rows blocks.cells.now) _ (omega arith)
     (rw (c.bounds.ensures, c.requires.near) at c.in_ok-near.ensures)

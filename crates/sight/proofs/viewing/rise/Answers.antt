@@ -1,4 +1,3 @@
-use Rattle.std.proofs.Common.{◌≡◌, Some}
 use Rattle.sight.specs.Refusals.{observers_fault}
 use Rattle.sight.proofs.Refused.{not_jobs, refuses}
 use Rattle.sight.proofs.Lowering.{whole_rise}
@@ -9,10 +8,8 @@ returns-in-Some-clause-refusals g c =
     let t = c.args.grid.now.terrain in
     let os = c.args.observers.now in
     let fault = observers_fault t os 0 c.args.radius in
-    let reported : fault ≡ Some c.in-Some.fault = rw c.first_fault.ensures at c.in-Some.is in
-    refuses fault c.in-Some.fault c.args.workers (λ job. not_jobs job t os 0 c.args.radius) reported
+    let reported = rw c.first_fault.ensures at c.in-Some.is in
+    refuses fault _ _ (λ job. not_jobs job t os 0 c.args.radius) reported
 
 pub returns-clause-values : goal.returns-clause-values
-returns-clause-values g c =
-    whole_rise c.args.tiling.now c.args.grid.now.terrain c.args.observers.now c.args.radius
-    c.in_ok-values.values.items c.requires.given c.in_ok-values.ensures.made
+returns-clause-values g c = whole_rise _ _ _ _ _ c.requires.given c.in_ok-values.ensures.made

@@ -2,7 +2,7 @@ use Rattle.std.proofs.Common.{arith, sym, ap, ◌∙◌, ◌≡◌, ◌+◌, ◌
 use Rattle.std.specs.Int.{w64}
 use Rattle.std.proofs.lemmas.Bool.{OnTrue_at}
 use Rattle.std.proofs.lemmas.Int.{to_z-of_z}
-use Rattle.sightlines.specs.Walk.{steps_of, step_blocks, step_range_blocks, whole_at, IsAt}
+use Rattle.sightlines.specs.Walk.{steps_of, step_blocks, step_range_blocks, IsAt}
 use Rattle.sightlines.specs.Blocks.{AreTopsAlong, IsPeak}
 use Rattle.sightlines.specs.declared.passing.BlockStrides.{BlockStrides}
 use Rattle.sightlines.specs.declared.walk.Sightline.{Sightline}
@@ -14,32 +14,26 @@ use Rattle.sightlines.proofs.LowBlocks.{step_above, step_passed}
 use Rattle.sightlines.proofs.passing.blocking_step_past_blocks.Goals as goal
 
 -- if the line is at or above the peak at step k and at its end, no step from k on blocks
-none_above : (cells tops : List (Option ℤ)) (line : Sightline) (s : BlockStrides) (peak : ℤ)
-    (k : ℕ) (here : Step) → 0 < steps_of line → k ≤ steps_of line → IsAt line k here →
-    AreTopsAlong 128 cells tops line s → IsPeak tops peak
-    → (peak ≤ℤ line.to_elevation) × ((pos (steps_of line) *ℤ peak) ≤ℤ here.sight) →
+none_above : (cells tops : List (Option ℤ)) (line : Sightline) (s : BlockStrides) (peak : ℤ) (k : ℕ) (here : Step) →
+    0 < steps_of line → k ≤ steps_of line → IsAt line k here → AreTopsAlong 128 cells tops line s → IsPeak tops peak →
+    (peak ≤ℤ line.to_elevation) × ((pos (steps_of line) *ℤ peak) ≤ℤ here.sight) →
     step_range_blocks cells line k (steps_of line - k) ≡ false
 none_above cells tops line s peak k here some within at are is_peak clear =
-    none_from (step_blocks cells line.lead line.side line.from_elevation line.to_elevation
-    (steps_of line)) k (steps_of line - k) (λ j low high. step_above 128 cells tops line s peak k j
-    here some low (omega arith) at are is_peak clear.1 clear.0)
+    none_from (step_blocks cells line.lead line.side line.from_elevation line.to_elevation (steps_of line)) k
+    (steps_of line - k) (λ j low high.
+    step_above 128 cells tops line s peak k j here some low (omega arith) at are is_peak clear.1 clear.0)
 
 pub returns-then-is_clear-clause-answer : goal.returns-then-is_clear-clause-answer
 returns-then-is_clear-clause-answer c =
-    let tops = c.args.tops.now in
-    let peak_is = to_z-of_z w64 tops.peak (height_fits tops.peak c.requires.peak.0) in
-    sym
-    (none_above c.args.cells.now tops.far.items c.args.line c.args.far tops.peak 1 c.at-begin.result
-    (omega arith) (omega arith) c.at-begin.ensures c.requires.far_tops c.requires.peak.1
+    let peak_is = to_z-of_z w64 c.args.tops.now.peak (height_fits _ c.requires.peak.0) in
+    sym (none_above _ _ _ _ _ 1 _ (omega arith) (omega arith) c.at-begin.ensures c.requires.far_tops c.requires.peak.1
     (rw peak_is at (OnTrue_at c.if-is_clear.true c.is_clear.ensures)))
 
 pub returns-in-Some-clause-answer : goal.returns-in-Some-clause-answer
 returns-in-Some-clause-answer c =
     let line = c.args.line in
-    let first = c.block_end-first.result in
-    let p = step_blocks c.args.cells.now line.lead line.side line.from_elevation line.to_elevation
-    (steps_of line) in
-    sym (any_within p 1 (steps_of line - 1) 1 (first - 1) (omega arith) (omega arith)
+    let p = step_blocks c.args.cells.now line.lead line.side line.from_elevation line.to_elevation (steps_of line) in
+    sym (any_within p 1 (steps_of line - 1) 1 (c.block_end-first.result - 1) (omega arith) (omega arith)
     (sym c.blocking_step.ensures.answer ∙ ap is_some c.in-Some.is))
 
 pub returns-then-is_clear-2-clause-answer : goal.returns-then-is_clear-2-clause-answer
@@ -47,17 +41,13 @@ returns-then-is_clear-2-clause-answer c =
     let line = c.args.line in
     let n = steps_of line in
     let first = c.loop-first.first in
-    let tops = c.args.tops.now in
-    let p =
-    step_blocks c.args.cells.now line.lead line.side line.from_elevation line.to_elevation n in
+    let p = step_blocks c.args.cells.now line.lead line.side line.from_elevation line.to_elevation n in
     let all : n - 1 ≡ (first - 1) + (n - first) = omega arith in
-    let peak_is = to_z-of_z w64 tops.peak (height_fits tops.peak c.requires.peak.0) in
+    let peak_is = to_z-of_z w64 c.args.tops.now.peak (height_fits _ c.requires.peak.0) in
     let none =
-    none_above c.args.cells.now tops.far.items line c.args.far tops.peak first c.loop-first.start
-    (omega arith) (omega arith) c.loop-first.invariant.start c.requires.far_tops c.requires.peak.1
-    (rw peak_is at (OnTrue_at c.if-is_clear-2.true c.is_clear-in-loop-first.ensures)) in
-    sym (rw all
-    (none_joined p 1 (first - 1) first (n - first) (omega arith) c.loop-first.invariant.clear none))
+    none_above _ _ line _ _ first _ (omega arith) (omega arith) c.loop-first.invariant.start c.requires.far_tops
+    c.requires.peak.1 (rw peak_is at (OnTrue_at c.if-is_clear-2.true c.is_clear-in-loop-first.ensures)) in
+    sym (rw all (none_joined p 1 (first - 1) first (n - first) (omega arith) c.loop-first.invariant.clear none))
 
 pub is_clear_of_blocks-requires-clause-heights : goal.is_clear_of_blocks-requires-clause-heights
 is_clear_of_blocks-requires-clause-heights c = rw c.deref.ensures.value c.requires.far_tops.heights
@@ -94,12 +84,10 @@ pub returns-in-Some-blocking_step_past_near_blocks-clause-answer :
 returns-in-Some-blocking_step_past_near_blocks-clause-answer c =
     let line = c.args.line in
     let first = c.loop-first.first in
-    let end = c.block_end-end.result in
-    let p = step_blocks c.args.cells.now line.lead line.side line.from_elevation line.to_elevation
-    (steps_of line) in
-    sym (any_within p 1 (steps_of line - 1) first (end - first) (omega arith) (omega arith)
-    (sym c.blocking_step_past_near_blocks.ensures.answer
-    ∙ ap is_some c.in-Some-blocking_step_past_near_blocks.is))
+    let p = step_blocks c.args.cells.now line.lead line.side line.from_elevation line.to_elevation (steps_of line) in
+    sym (any_within p 1 (steps_of line - 1) first (c.block_end-end.result - first) (omega arith) (omega arith)
+    (sym c.blocking_step_past_near_blocks.ensures.answer ∙
+    ap is_some c.in-Some-blocking_step_past_near_blocks.is))
 
 pub loop-first-preserved-in_default-blocking_step_past_near_blocks :
     goal.loop-first-preserved-in_default-blocking_step_past_near_blocks
@@ -107,17 +95,15 @@ loop-first-preserved-in_default-blocking_step_past_near_blocks c =
     let line = c.args.line in
     let first = c.loop-first.first in
     let end = c.block_end-end.result in
-    let p = step_blocks c.args.cells.now line.lead line.side line.from_elevation line.to_elevation
-    (steps_of line) in
+    let p = step_blocks c.args.cells.now line.lead line.side line.from_elevation line.to_elevation (steps_of line) in
     let all : end - 1 ≡ (first - 1) + (end - first) = omega arith in
     record {
       begun = omega arith;
       within = omega arith;
       start = c.at-next.ensures;
-      clear = rw all (none_joined p 1 (first - 1) first (end - first)
-          (omega arith) c.loop-first.invariant.clear
-          (sym c.blocking_step_past_near_blocks.ensures.answer
-          ∙ ap is_some c.in_default-blocking_step_past_near_blocks.is));
+      clear = rw all (none_joined p 1 (first - 1) first (end - first) (omega arith) c.loop-first.invariant.clear
+          (sym c.blocking_step_past_near_blocks.ensures.answer ∙
+          ap is_some c.in_default-blocking_step_past_near_blocks.is));
     }
 
 pub loop-first-preserved : goal.loop-first-preserved
@@ -126,24 +112,20 @@ loop-first-preserved c =
     let first = c.loop-first.first in
     let end = c.block_end-end.result in
     let block = c.lead_at-block.result / 128 in
-    let p = step_blocks c.args.cells.now line.lead line.side line.from_elevation line.to_elevation
-    (steps_of line) in
+    let p = step_blocks c.args.cells.now line.lead line.side line.from_elevation line.to_elevation (steps_of line) in
     let all : end - 1 ≡ (first - 1) + (end - first) = omega arith in
-    let here : whole_at line.lead (steps_of line) first / 128 ≡ block =
-    ap (λ x. x / 128) (sym c.lead_at-block.ensures) in
-    let low = rw c.deref.ensures.value at
-    (OnTrue_at c.if-not-is_clear_of_blocks.false c.is_clear_of_blocks.ensures) in
-    let none = none_from p first (end - first) (λ k above below. step_passed 128 c.args.cells.now
-    c.args.tops.now.far.items line c.args.far first end k block c.loop-first.start c.at-next.result
-    (omega arith) above (omega arith)
-    (omega arith) c.loop-first.invariant.start c.at-next.ensures c.requires.far_tops
+    let here = ap (λ x. x / 128) (sym c.lead_at-block.ensures) in
+    let low = rw c.deref.ensures.value at (OnTrue_at c.if-not-is_clear_of_blocks.false c.is_clear_of_blocks.ensures) in
+    let none =
+    none_from p first (end - first) (λ k above below.
+    step_passed 128 _ _ line _ first end k block _ _ (omega arith) above (omega arith) (omega arith)
+    c.loop-first.invariant.start c.at-next.ensures c.requires.far_tops
     (c.block_end-end.ensures.same k above (omega arith) ∙ here) low) in
     record {
       begun = omega arith;
       within = omega arith;
       start = c.at-next.ensures;
-      clear = rw all (none_joined p 1 (first - 1) first (end - first)
-          (omega arith) c.loop-first.invariant.clear none);
+      clear = rw all (none_joined p 1 (first - 1) first (end - first) (omega arith) c.loop-first.invariant.clear none);
     }
 
 pub is_clear_of_blocks-requires-clause-over : goal.is_clear_of_blocks-requires-clause-over

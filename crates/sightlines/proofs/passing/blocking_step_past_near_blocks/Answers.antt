@@ -1,6 +1,6 @@
 use Rattle.std.proofs.Common.{arith, sym, ap, ◌∙◌, ◌≡◌, ◌+◌, ◌-◌, ◌/◌, is_some}
 use Rattle.std.proofs.lemmas.Bool.{OnTrue_at}
-use Rattle.sightlines.specs.Walk.{steps_of, step_blocks, whole_at}
+use Rattle.sightlines.specs.Walk.{steps_of, step_blocks}
 use Rattle.sightlines.proofs.Steps.{whole_le}
 use Rattle.sightlines.proofs.Ranges.{none_from, none_joined, any_within}
 use Rattle.sightlines.proofs.LowBlocks.{step_passed}
@@ -37,10 +37,8 @@ pub returns-in-Some-clause-answer : goal.returns-in-Some-clause-answer
 returns-in-Some-clause-answer c =
     let line = c.args.line in
     let step = c.loop-step.step in
-    let past = c.block_end-past.result in
-    let p = step_blocks c.args.cells.now line.lead line.side line.from_elevation line.to_elevation
-    (steps_of line) in
-    sym (any_within p c.args.first (c.args.end - c.args.first) step (past - step) (omega arith)
+    let p = step_blocks c.args.cells.now line.lead line.side line.from_elevation line.to_elevation (steps_of line) in
+    sym (any_within p c.args.first (c.args.end - c.args.first) step (c.block_end-past.result - step) (omega arith)
     (omega arith) (sym c.blocking_step.ensures.answer ∙ ap is_some c.in-Some.is))
 
 pub loop-step-preserved-in_default : goal.loop-step-preserved-in_default
@@ -49,16 +47,14 @@ loop-step-preserved-in_default c =
     let first = c.args.first in
     let step = c.loop-step.step in
     let past = c.block_end-past.result in
-    let p = step_blocks c.args.cells.now line.lead line.side line.from_elevation line.to_elevation
-    (steps_of line) in
+    let p = step_blocks c.args.cells.now line.lead line.side line.from_elevation line.to_elevation (steps_of line) in
     let all : past - first ≡ (step - first) + (past - step) = omega arith in
     record {
       begun = omega arith;
       within = omega arith;
       start = c.to-next.ensures;
-      clear = rw all (none_joined p first (step - first) step (past - step)
-          (omega arith) c.loop-step.invariant.clear (sym c.blocking_step.ensures.answer
-          ∙ ap is_some c.in_default.is));
+      clear = rw all (none_joined p first (step - first) step (past - step) (omega arith) c.loop-step.invariant.clear
+          (sym c.blocking_step.ensures.answer ∙ ap is_some c.in_default.is));
     }
 
 pub loop-step-preserved : goal.loop-step-preserved
@@ -68,21 +64,19 @@ loop-step-preserved c =
     let step = c.loop-step.step in
     let past = c.block_end-past.result in
     let block = c.lead_at-block.result / 16 in
-    let p = step_blocks c.args.cells.now line.lead line.side line.from_elevation line.to_elevation
-    (steps_of line) in
+    let p = step_blocks c.args.cells.now line.lead line.side line.from_elevation line.to_elevation (steps_of line) in
     let all : past - first ≡ (step - first) + (past - step) = omega arith in
-    let here : whole_at line.lead (steps_of line) step / 16 ≡ block =
-    ap (λ x. x / 16) (sym c.lead_at-block.ensures) in
-    let low = OnTrue_at c.if-not-is_clear_of_blocks.false c.is_clear_of_blocks.ensures in
-    let none = none_from p step (past - step) (λ k above below. step_passed 16 c.args.cells.now
-    c.args.tops.now line c.args.strides step past k block c.loop-step.here c.to-next.result
-    (omega arith) above (omega arith)
-    (omega arith) c.loop-step.invariant.start c.to-next.ensures c.requires.tops
-    (c.block_end-past.ensures.same k above (omega arith) ∙ here) low) in
+    let here = ap (λ x. x / 16) (sym c.lead_at-block.ensures) in
+    let none =
+    none_from p step (past - step) (λ k above below.
+    step_passed 16 _ _ line _ step past k block _ _ (omega arith) above (omega arith) (omega arith)
+    c.loop-step.invariant.start c.to-next.ensures c.requires.tops
+    (c.block_end-past.ensures.same k above (omega arith) ∙ here)
+    (OnTrue_at c.if-not-is_clear_of_blocks.false c.is_clear_of_blocks.ensures)) in
     record {
       begun = omega arith;
       within = omega arith;
       start = c.to-next.ensures;
-      clear = rw all (none_joined p first (step - first) step (past - step)
-          (omega arith) c.loop-step.invariant.clear none);
+      clear =
+          rw all (none_joined p first (step - first) step (past - step) (omega arith) c.loop-step.invariant.clear none);
     }

@@ -4,8 +4,6 @@ use Rattle.sightlines.proofs.reach.is_in_reach.Goals as goal
 
 pub overflow_add-result : goal.overflow_add-result
 overflow_add-result c =
-    let rows =
-    mul-le c.abs_diff-rows.result c.abs_diff-rows.result 4096 4096 (omega arith) (omega arith) in
-    let cols =
-    mul-le c.abs_diff-cols.result c.abs_diff-cols.result 4096 4096 (omega arith) (omega arith) in
+    let rows = mul-le c.abs_diff-rows.result c.abs_diff-rows.result 4096 4096 (omega arith) (omega arith) in
+    let cols = mul-le c.abs_diff-cols.result c.abs_diff-cols.result 4096 4096 (omega arith) (omega arith) in
     omega (arith, rows, cols)

@@ -7,19 +7,19 @@ use Rattle.sightlines.proofs.walk.is_higher.Goals as goal
 
 pub weigh-requires-clause-height : goal.weigh-requires-clause-height
 weigh-requires-clause-height c =
-    kept c.in-Some.near (c.requires.heights c.args.index c.in-Some.near (has_height c.args.cells.now
-    c.args.index c.index-cells-index.is c.height.ensures c.in-Some.is c.requires.near))
+    kept _ (c.requires.heights c.args.index c.in-Some.near
+    (has_height c.args.cells.now _ c.index-cells-index.is c.height.ensures c.in-Some.is c.requires.near))
 
 pub weigh-requires-2-clause-height : goal.weigh-requires-2-clause-height
 weigh-requires-2-clause-height c =
-    kept c.in-Some.near (c.requires.heights c.args.index c.in-Some.near (has_height c.args.cells.now
-    c.args.index c.index-cells-index.is c.height.ensures c.in-Some.is c.requires.near))
+    kept _ (c.requires.heights c.args.index c.in-Some.near
+    (has_height c.args.cells.now _ c.index-cells-index.is c.height.ensures c.in-Some.is c.requires.near))
 
 pub weigh-requires-3-clause-height : goal.weigh-requires-3-clause-height
-weigh-requires-3-clause-height c = kept c.in-Some-height.far (c.requires.heights
-    (c.args.index + c.args.beside) c.in-Some-height.far (has_height c.args.cells.now
-    (c.args.index + c.args.beside) c.index-cells-index-2.is c.height-2.ensures c.in-Some-height.is
-    (omega (arith, c.requires.far))))
+weigh-requires-3-clause-height c =
+    kept _ (c.requires.heights (c.args.index + c.args.beside) c.in-Some-height.far
+    (has_height c.args.cells.now (c.args.index + c.args.beside) c.index-cells-index-2.is c.height-2.ensures
+    c.in-Some-height.is (omega arith)))
 
 pub returns : goal.returns
 returns c =
@@ -31,11 +31,10 @@ returns c =
     let both : FitsSigned w64 (c.weigh-2.result +ℤ c.weigh-3.result) = search rules in
     let some_far : 0 < c.args.far_weight = omega arith in
     let some_near : 0 < c.args.near_weight = omega arith in
-    let near_is = has_height c.args.cells.now c.args.index c.index-cells-index.is c.height.ensures
-    c.in-Some.is c.requires.near in
-    let far_is = has_height c.args.cells.now (c.args.index + c.args.beside) c.index-cells-index-2.is
-    c.height-2.ensures c.in-Some-height.is (omega (arith, c.requires.far)) in
-    rw (near_is, far_is) (simp to_z-of_z (
-    rw (simp to_z-of_z at c.weigh-2.ensures.value, simp to_z-of_z at c.weigh-3.ensures.value)
-    (sym (above_both c.in-Some.near c.in-Some-height.far c.args.near_weight c.args.far_weight
-    c.args.sight some_near some_far))))
+    let near_is = has_height c.args.cells.now _ c.index-cells-index.is c.height.ensures c.in-Some.is c.requires.near in
+    let far_is =
+    has_height c.args.cells.now (c.args.index + c.args.beside) c.index-cells-index-2.is c.height-2.ensures
+    c.in-Some-height.is (omega arith) in
+    rw (near_is, far_is) (simp to_z-of_z (rw
+    (simp to_z-of_z at c.weigh-2.ensures.value, simp to_z-of_z at c.weigh-3.ensures.value)
+    (sym (above_both c.in-Some.near c.in-Some-height.far _ _ c.args.sight some_near some_far))))

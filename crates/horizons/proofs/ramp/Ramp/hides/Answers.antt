@@ -6,9 +6,6 @@ use Rattle.horizons.proofs.ramp.Ramp.hides.Goals as goal
 pub returns : goal.returns
 returns c =
     let at = ramp_value c.args.self c.args.target in
-    let value = back at c.requires.at.value in
-    let value_long = back_long at (omega (arith, c.requires.at.value)) in
-    let few = c.requires.at.lines in
-    let rise = product_is c.args.rise (pos c.args.self.lines) c.ranges.rise (omega (arith, few)) in
+    let rise = product_is c.args.rise (pos c.args.self.lines) c.ranges.rise (omega (arith, c.requires.at.lines)) in
     rw (c.from.ensures, c.from-2.ensures, c.from-3.ensures, c.value_at.ensures)
-    (rw (value, value_long, rise.1) refl)
+    (rw (back at c.requires.at.value, back_long at (omega (arith, c.requires.at.value)), rise.1) refl)

@@ -11,8 +11,7 @@ value_times : (r s : Ramp) (t : Target) → IsRampAt r t → IsRampAt s t →
     let p = long_product (ramp_value r t) (pos s.lines) in
     FitsSigned w128 p × (to_z w128 (of_z w128 p) ≡ ramp_value r t *ℤ pos s.lines)
 value_times r s t at other =
-    let fits = fits_signed_from_abs w64 (ramp_value r t) at.value in
-    product_is (ramp_value r t) (pos s.lines) fits (omega (arith, other.lines))
+    product_is (ramp_value r t) (pos s.lines) (fits_signed_from_abs w64 (ramp_value r t) at.value) (omega arith)
 
 pub overflow_mul-result : goal.overflow_mul-result
 overflow_mul-result c =

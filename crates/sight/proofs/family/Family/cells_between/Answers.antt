@@ -13,8 +13,7 @@ from_0_low z b low = omega (arith, ints, int_max_is z (pos 0), low)
 from_0_high : (z : ℤ) (b : ℕ) → pos b <ℤ z → b < unsigned_abs (int_max z (pos 0))
 from_0_high z b high = omega (arith, ints, int_max_is z (pos 0), high)
 
-below : (b at : ℕ) (high : ℤ) → (pos b -ℤ pos at) ≤ℤ (high +ℤ pos 1) →
-    pos b <ℤ ((pos at +ℤ high) +ℤ pos 2)
+below : (b at : ℕ) (high : ℤ) → (pos b -ℤ pos at) ≤ℤ (high +ℤ pos 1) → pos b <ℤ ((pos at +ℤ high) +ℤ pos 2)
 below b at high is = omega (arith, ints, is)
 
 above : (b at : ℕ) (low : ℤ) → low ≤ℤ (pos b -ℤ pos at) → (pos at +ℤ low) ≤ℤ pos b
@@ -27,31 +26,28 @@ returns-clause-between c b inside low high =
     let at_is = to_z_pos w32 at (omega (arith, family.side, family.cells)) in
     let low_is = back_short c.args.low (omega (arith, c.requires.low)) in
     let high_is = back_short c.args.high (omega (arith, c.requires.high)) in
-    let first_is = back_short (pos at
-    +ℤ c.args.low) (omega (arith, ints, family.side, family.cells, c.requires.low)) in
-    let last_is = back_short (pos at
-    +ℤ c.args.high) (omega (arith, ints, family.side, family.cells, c.requires.high)) in
-    let past_is = back_short ((pos at +ℤ c.args.high)
-    +ℤ pos 2) (omega (arith, ints, family.side, family.cells, c.requires.high)) in
+    let first_is = back_short (pos at +ℤ c.args.low) (omega (arith, ints, family.side, family.cells, c.requires.low)) in
+    let last_is =
+    back_short (pos at +ℤ c.args.high) (omega (arith, ints, family.side, family.cells, c.requires.high)) in
+    let past_is =
+    back_short ((pos at +ℤ c.args.high) +ℤ pos 2)
+    (omega (arith, ints, family.side, family.cells, c.requires.high)) in
     let first : c.max-first.result ≡ int_max (pos at +ℤ c.args.low) (pos 0) =
     rw (at_is, low_is, first_is) at c.max-first.ensures.value in
     let past : c.max-past.result ≡ int_max ((pos at +ℤ c.args.high) +ℤ pos 2) (pos 0) =
     rw (at_is, high_is, last_is, past_is) at c.max-past.ensures.value in
-    let first_back = back_short c.max-first.result (rw first (omega (
+    let first_back =
+    back_short c.max-first.result (rw first (omega (
       arith,
-      from_0_small (pos at +ℤ c.args.low) (2 ^ 26)
-          (omega (arith, ints, family.side, family.cells, c.requires.low)),
+      from_0_small (pos at +ℤ c.args.low) (2 ^ 26) (omega (arith, ints, family.side, family.cells, c.requires.low)),
     ))) in
     let past_back =
     back_short c.max-past.result (rw past (omega (
       arith,
-      from_0_small ((pos at +ℤ c.args.high)
-          +ℤ pos 2) (2 ^ 26) (omega (arith, ints, family.side, family.cells, c.requires.high)),
+      from_0_small ((pos at +ℤ c.args.high) +ℤ pos 2) (2 ^ 26)
+          (omega (arith, ints, family.side, family.cells, c.requires.high)),
     ))) in
     let end : c.min.result ≡ min (unsigned_abs c.max-past.result) c.args.self.side.cells =
     rw past_back at c.min.ensures in
-    let past_b : b < unsigned_abs c.max-past.result =
-    rw past (from_0_high ((pos at +ℤ c.args.high) +ℤ pos 2) b (below b at c.args.high high)) in (
-      rw (first_back, first) (from_0_low (pos at +ℤ c.args.low) b (above b at c.args.low low)),
-      omega (arith, end, past_b, inside),
-    )
+    let past_b : b < unsigned_abs c.max-past.result = rw past (from_0_high _ b (below b at c.args.high high)) in
+    (rw (first_back, first) (from_0_low _ b (above b at _ low)), omega (arith, end, past_b, inside))

@@ -6,9 +6,8 @@ pub bounds-flags-index : goal.bounds-flags-index
 bounds-flags-index c =
     let w = c.args.extent in
     let ray = c.requires.ray in
-    rw (c.flag_index-index.ensures ray.cell ray.stands)
-    (c.requires.extent.inside (lead_of c.args.self c.args.ray.line - w.lines.first)
-    (ray.cell - w.side.first) (omega (arith, ray.crosses.within)) (omega (arith, ray.within)))
+    rw (c.flag_index-index.ensures ray.cell ray.stands) (c.requires.extent.inside
+    (lead_of c.args.self c.args.ray.line - w.lines.first) (ray.cell - w.side.first) (omega arith) (omega arith))
 
 pub returns : goal.returns
 returns c = λ y stands. rw (c.flag_index-index.ensures y stands) refl

@@ -1,8 +1,7 @@
-use Rattle.std.proofs.Common.{arith, sym, ap, subst, ◌∙◌, ◌≡◌, ℕ, ◌*◌, ◌+◌, ◌-◌, ◌++◌, ◌∷◌, [], List, get_or, false}
+use Rattle.std.proofs.Common.{arith, sym, ap, subst, ◌∙◌, ℕ, ◌*◌, ◌+◌, ◌-◌, ◌++◌, ◌∷◌, [], List, get_or, false}
 use Rattle.std.proofs.lemmas.Bool.{both_ways}
 use Rattle.horizons.specs.declared.target.Target.{Target}
-use Rattle.sight.specs.Sweep.{lead_of}
-use Rattle.sight.specs.Hiding.{target_at, AreRays, Crosses, IsInRun, flag_in_extent}
+use Rattle.sight.specs.Hiding.{AreRays, Crosses, IsInRun}
 use Rattle.sight.proofs.Gathered.{cell_passed, cell_taken, line_passed, line_ended}
 use Rattle.sight.proofs.family.Family.gather_line.Goals as goal
 use Rattle.sight.proofs.family.Family.gather_line.Goals.{then-flags-row+in_ok-push, else-flags-row}
@@ -25,29 +24,27 @@ loop-cell-preserved c =
     let P : List Target → Type 0 = λ rays. AreRays f extent flags n (cell + 1) rays in
     elim c.if-flags-row.branch [
       | then-flags-row+in_ok-push w ↦
-          let items : c.if-flags-row.rays.items ≡ old ++ target_at f n cell ∷ [] = ap (λ v. v.items)
-          w.rays-is ∙ w.in_ok-push.ensures.items ∙ ap (λ t. old ++ t ∷ []) w.target_at.ensures in
-          subst P (sym items) (cell_taken f extent flags n cell old c.requires.family
-          c.requires.extent crosses (omega arith, omega arith) c.loop-cell.invariant)
+          let items =
+          ap (λ v. v.items) w.rays-is ∙ w.in_ok-push.ensures.items ∙ ap (λ t. old ++ t ∷ []) w.target_at.ensures in
+          subst P (sym items) (cell_taken f extent flags n cell old c.requires.family c.requires.extent crosses
+          (omega arith, omega arith) c.loop-cell.invariant)
       | else-flags-row w ↦
-          let unflagged : flag_in_extent extent (lead_of f n) cell flags ≡ false =
-          ap (λ x. get_or flags ((x - extent.lines.first) * extent.lines.stride + (cell
-          - extent.side.first) * extent.side.stride) false) (sym lead) ∙ w.if-flags-row.false in
+          let unflagged =
+          ap (λ x.
+          get_or flags ((x - extent.lines.first) * extent.lines.stride +
+          (cell - extent.side.first) * extent.side.stride) false) (sym lead) ∙
+          w.if-flags-row.false in
           subst P (ap (λ v. v.items) (sym w.rays-is))
           (cell_passed f extent flags n cell old unflagged c.loop-cell.invariant)
     ]
 
 pub returns-then-not-has : goal.returns-then-not-has
 returns-then-not-has c =
-    let out : Crosses c.args.self c.args.extent c.args.line →
-    ⊥ = λ crosses. both_ways c.has.result c.if-not-has.true (c.has.ensures.1 (subst
-    (λ (x : ℕ). IsInRun c.args.extent.lines x) (sym c.lead_of-lead.ensures) crosses.within)) in
-    line_passed c.args.self c.args.extent c.args.flags.now c.args.line c.args.rays.now.items out
-    c.requires.rays
+    let out : Crosses c.args.self c.args.extent c.args.line → ⊥ =
+    λ crosses.
+    both_ways c.has.result c.if-not-has.true (c.has.ensures.1
+    (subst (λ (x : ℕ). IsInRun c.args.extent.lines x) (sym c.lead_of-lead.ensures) crosses.within)) in
+    line_passed _ _ _ _ _ out c.requires.rays
 
 pub returns : goal.returns
-returns c =
-    line_ended c.args.self
-    c.args.extent c.args.flags.now c.args.line c.loop-cell.cell c.loop-cell.rays.items (omega arith)
-    (omega (arith, c.loop-cell.auto.cell-end, c.requires.extent.side, c.requires.family.cells))
-    c.loop-cell.invariant
+returns c = line_ended _ _ _ _ _ _ (omega arith) (omega arith) c.loop-cell.invariant

@@ -8,27 +8,28 @@ pub overflow_mul-result : goal.overflow_mul-result
 overflow_mul-result c =
     let near = c.args.near in
     let far = c.args.far in
-    let near_is = to_z-of_z w64 near c.ranges.near in
-    let far_is = to_z-of_z w64 far c.ranges.far in
     let heights = c.requires.heights in
     let step = back (far -ℤ near) (omega (arith, step_small near far heights.0 heights.1)) in
     let line = to_z_pos w64 c.args.line (omega (arith, c.requires.line)) in
-    rw (near_is, far_is, step, line) (fits_signed_from_abs w64 ((far -ℤ near) *ℤ pos c.args.line)
-    (gain_small near far c.args.line heights.0 heights.1 c.requires.line.1))
+    rw (to_z-of_z w64 near c.ranges.near, to_z-of_z w64 far c.ranges.far, step, line)
+    (fits_signed_from_abs w64 ((far -ℤ near) *ℤ pos c.args.line)
+    (gain_small near far _ heights.0 heights.1 c.requires.line.1))
 
 pub overflow_mul-result-2 : goal.overflow_mul-result-2
 overflow_mul-result-2 c =
     let near = c.args.near in
     let far = c.args.far in
     let offset = c.args.offset in
-    let near_is = to_z-of_z w64 near c.ranges.near in
-    let far_is = to_z-of_z w64 far c.ranges.far in
     let heights = c.requires.heights in
-    let offset_short = to_z-of_z w32 offset c.ranges.offset in
-    let offset_is = back offset (omega (arith, c.requires.offset)) in
     let step = back (far -ℤ near) (omega (arith, step_small near far heights.0 heights.1)) in
-    rw (near_is, far_is, step, offset_short, offset_is) (fits_signed_from_abs w64
-    ((far -ℤ near) *ℤ offset) (tilt_small near far offset heights.0 heights.1 c.requires.offset))
+    rw (
+      to_z-of_z w64 near c.ranges.near,
+      to_z-of_z w64 far c.ranges.far,
+      step,
+      to_z-of_z w32 offset c.ranges.offset,
+      back offset (omega (arith, c.requires.offset)),
+    ) (fits_signed_from_abs w64 ((far -ℤ near) *ℤ offset)
+    (tilt_small near far offset heights.0 heights.1 c.requires.offset))
 
 pub overflow_sub-result-2 : goal.overflow_sub-result-2
 overflow_sub-result-2 c =
@@ -37,20 +38,21 @@ overflow_sub-result-2 c =
     let offset = c.args.offset in
     let eye = c.args.self.eye in
     let heights = c.requires.heights in
-    let near_is = to_z-of_z w64 near c.ranges.near in
-    let far_is = to_z-of_z w64 far c.ranges.far in
-    let offset_short = to_z-of_z w32 offset c.ranges.offset in
-    let offset_is = back offset (omega (arith, c.requires.offset)) in
-    let eye_is = back eye (omega (arith, c.requires.family.eye)) in
     let step = back (far -ℤ near) (omega (arith, step_small near far heights.0 heights.1)) in
-    let tilt = back ((far -ℤ near) *ℤ offset)
-    (tilt_small near far offset heights.0 heights.1 c.requires.offset) in
-    let base =
-    back (near -ℤ eye) (omega (arith, base_small near eye heights.0 c.requires.family.eye)) in
-    rw (near_is, far_is, step, offset_short, offset_is, eye_is, base, tilt)
+    let tilt = back ((far -ℤ near) *ℤ offset) (tilt_small near far offset heights.0 heights.1 c.requires.offset) in
+    let base = back (near -ℤ eye) (omega (arith, base_small near eye heights.0 c.requires.family.eye)) in
+    rw (
+      to_z-of_z w64 near c.ranges.near,
+      to_z-of_z w64 far c.ranges.far,
+      step,
+      to_z-of_z w32 offset c.ranges.offset,
+      back offset (omega (arith, c.requires.offset)),
+      back eye (omega (arith, c.requires.family.eye)),
+      base,
+      tilt,
+    )
     (fits_signed_from_abs w64 ((near -ℤ eye) -ℤ ((far -ℤ near) *ℤ offset))
-    (intercept_small near far eye offset heights.0 heights.1 c.requires.family.eye
-    c.requires.offset))
+    (intercept_small near far eye offset heights.0 heights.1 c.requires.family.eye c.requires.offset))
 
 pub returns : goal.returns
 returns c =
@@ -60,30 +62,21 @@ returns c =
     let eye = c.args.self.eye in
     let line = c.args.line in
     let heights = c.requires.heights in
-    let near_is = to_z-of_z w64 near c.ranges.near in
-    let far_is = to_z-of_z w64 far c.ranges.far in
-    let offset_short = to_z-of_z w32 offset c.ranges.offset in
-    let offset_is = back offset (omega (arith, c.requires.offset)) in
-    let eye_is = back eye (omega (arith, c.requires.family.eye)) in
     let step = back (far -ℤ near) (omega (arith, step_small near far heights.0 heights.1)) in
-    let line_is = to_z_pos w64 line (omega (arith, c.requires.line)) in
-    let tilt = back ((far -ℤ near) *ℤ offset)
-    (tilt_small near far offset heights.0 heights.1 c.requires.offset) in
-    let base =
-    back (near -ℤ eye) (omega (arith, base_small near eye heights.0 c.requires.family.eye)) in
-    let gain = back ((far -ℤ near) *ℤ pos line)
-    (gain_small near far line heights.0 heights.1 c.requires.line.1) in
-    let intercept = back ((near -ℤ eye) -ℤ ((far -ℤ near) *ℤ offset))
-    (intercept_small near far eye offset heights.0 heights.1 c.requires.family.eye
-    c.requires.offset) in
+    let tilt = back ((far -ℤ near) *ℤ offset) (tilt_small near far offset heights.0 heights.1 c.requires.offset) in
+    let base = back (near -ℤ eye) (omega (arith, base_small near eye heights.0 c.requires.family.eye)) in
+    let gain = back ((far -ℤ near) *ℤ pos line) (gain_small near far line heights.0 heights.1 c.requires.line.1) in
+    let intercept =
+    back ((near -ℤ eye) -ℤ ((far -ℤ near) *ℤ offset))
+    (intercept_small near far eye offset heights.0 heights.1 c.requires.family.eye c.requires.offset) in
     rw (
-      near_is,
-      far_is,
+      to_z-of_z w64 near c.ranges.near,
+      to_z-of_z w64 far c.ranges.far,
       step,
-      offset_short,
-      offset_is,
-      eye_is,
-      line_is,
+      to_z-of_z w32 offset c.ranges.offset,
+      back offset (omega (arith, c.requires.offset)),
+      back eye (omega (arith, c.requires.family.eye)),
+      to_z_pos w64 line (omega (arith, c.requires.line)),
       base,
       tilt,
       gain,
@@ -92,6 +85,6 @@ returns c =
     (record {
       ramp = refl;
       clear = refl;
-      at = λ t is_t passes. ramp_is c.args.self line offset near far t c.requires.family
-          c.requires.line heights.0 heights.1 is_t passes;
+      at = λ t is_t passes.
+          ramp_is _ line offset near far t c.requires.family c.requires.line heights.0 heights.1 is_t passes;
     })

@@ -11,7 +11,9 @@ returns-clause-raised c y stands =
       rises = omega arith;
       most = is.order.2;
       clear = is.clear y stands;
-      hidden = λ less. subst (λ (h : ℕ). hides c.args.self.now.sweep.highest c.args.rank c.args.target
+      hidden = λ less.
+          subst (λ (h : ℕ).
+          hides c.args.self.now.sweep.highest c.args.rank c.args.target
           (rise_at c.args.cells.now c.args.family h c.args.target.line y) ≡ true) below
           (is.blocked y stands);
     }

@@ -3,6 +3,5 @@ use Rattle.sight.proofs.sweep.Sweep.new.Goals as goal
 
 pub returns : goal.returns
 returns c =
-    let pushed = rw c.new-highest.ensures at c.in_ok-push.ensures in
-    none_hides c.args.targets.now c.nothing.result c.push.new.self c.requires pushed
-    c.nothing.ensures.below c.nothing.ensures.at c.nothing.ensures.clear
+    none_hides _ _ _ c.requires (rw c.new-highest.ensures at c.in_ok-push.ensures) c.nothing.ensures.below
+    c.nothing.ensures.at c.nothing.ensures.clear

@@ -8,12 +8,11 @@ use Rattle.sight.proofs.tile.GatedViewshedTileMap.tile.Goals as goal
 pub returns : goal.returns
 returns g c =
     let self = c.args.self.now.input in
-    let b = c.bounds-bounds.result in
     let Has = HasValue self.grid.now.terrain self.observers.now self.target_height self.radius in
     let old = c.in_ok-values.values in
-    let whole = with_items_is old c.count_observers.new.values
+    let whole =
+    with_items_is old c.count_observers.new.values
     (omega (arith, c.in_ok-count_observers.ensures.size, c.in_ok-values.ensures.size, old.ok.0)) in
-    subst (λ (values : List (Option ℕ)). IsMadeTile self.tiling.now c.args.tile Has values)
-    (sym whole)
-    (made_tile self.tiling.now c.args.tile b Has c.count_observers.new.values
-    c.bounds-bounds.ensures.lawful c.bounds-bounds.ensures.value c.in_ok-count_observers.ensures)
+    subst (λ (values : List (Option ℕ)). IsMadeTile self.tiling.now c.args.tile Has values) (sym whole)
+    (made_tile _ c.args.tile c.bounds-bounds.result Has _ c.bounds-bounds.ensures.lawful
+    c.bounds-bounds.ensures.value c.in_ok-count_observers.ensures)

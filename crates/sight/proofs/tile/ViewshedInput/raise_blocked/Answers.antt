@@ -13,12 +13,12 @@ use Rattle.sight.proofs.PlacesLeft.{column_flags, row_flags}
 use Rattle.sight.proofs.tile.ViewshedInput.raise_blocked.Goals as goal
 
 pub raise_on_both_sides-requires-clause-heights : goal.raise_on_both_sides-requires-clause-heights
-raise_on_both_sides-requires-clause-heights c = rw c.cells-cells.ensures.value
-    (are_heights c.args.self.now.grid.now.terrain c.cells-cells.ensures.lawful.terrain)
+raise_on_both_sides-requires-clause-heights c =
+    rw c.cells-cells.ensures.value (are_heights _ c.cells-cells.ensures.lawful.terrain)
 
 pub raise_on_both_sides-requires-2-clause-heights : goal.raise_on_both_sides-requires-2-clause-heights
-raise_on_both_sides-requires-2-clause-heights c = rw c.cells-cells.ensures.value
-    (are_heights c.args.self.now.grid.now.terrain c.cells-cells.ensures.lawful.terrain)
+raise_on_both_sides-requires-2-clause-heights c =
+    rw c.cells-cells.ensures.value (are_heights _ c.cells-cells.ensures.lawful.terrain)
 
 pub raise_on_both_sides-requires-clause-tops : goal.raise_on_both_sides-requires-clause-tops
 raise_on_both_sides-requires-clause-tops c =
@@ -38,7 +38,7 @@ raise_on_both_sides-requires-clause-inside c =
 pub raise_on_both_sides-requires-2-clause-inside : goal.raise_on_both_sides-requires-2-clause-inside
 raise_on_both_sides-requires-2-clause-inside c =
     rw (c.axes-axes.ensures.columns, c.axes-axes.ensures.rows)
-    (λ x y in_x in_y. row_flags c.args.bounds x y _ (omega (arith, c.requires.size)) in_x in_y)
+    (λ x y in_x in_y. row_flags c.args.bounds x y _ (omega arith) in_x in_y)
 
 pub returns : goal.returns
 returns c =
@@ -50,29 +50,25 @@ returns c =
     let axes = c.axes-axes.ensures in
     let back = to_z-of_z w64 c.axes-axes.result.eye (search rules) in
     let e = eye_of t o in
-    let in_rows : b.top + b.rows ≤ t.rows =
-    omega (arith, c.requires.inside.rows_inside, self.cut) in
-    let in_cols : b.left + b.cols ≤ t.cols =
-    omega (arith, c.requires.inside.cols_inside, self.cut) in
+    let in_rows : b.top + b.rows ≤ t.rows = omega arith in
+    let in_cols : b.left + b.cols ≤ t.cols = omega arith in
     let flags = c.args.flags.now in
     let old = c.args.targets.now in
     let mid = c.raise_on_both_sides.new.targets in
     let new = c.raise_on_both_sides-2.new.targets in
-    let clear_columns : AreClear t.cells (family_of (columns_at b p) (rows_at t b p) e)
-    (extent_of (columns_at b p) (rows_at t b p)) flags old mid =
-    rw (c.cells-cells.ensures.value, back, axes.columns, axes.rows, axes.eye)
-    at c.in_ok-raise_on_both_sides.ensures in
-    let clear_rows = rw (c.cells-cells.ensures.value, back, axes.columns, axes.rows, axes.eye)
-    at c.raise_on_both_sides-2.ensures in
+    let clear_columns =
+    rw (c.cells-cells.ensures.value, back, axes.columns, axes.rows, axes.eye) at
+    c.in_ok-raise_on_both_sides.ensures in
+    let clear_rows =
+    rw (c.cells-cells.ensures.value, back, axes.columns, axes.rows, axes.eye) at c.raise_on_both_sides-2.ensures in
     on_ok_weaker c.raise_on_both_sides-2.result
     (λ (are : AreClear t.cells (family_of (rows_at t b p) (columns_at b p) e)
     (extent_of (rows_at t b p) (columns_at b p)) flags mid new) q inside flagged.
     let k = index_in b q in
-    raised_open t o q (get_or mid k 0) (get_or new k 0) (
-      subst (λ (z : ℕ). IsRaised (λ h. column_blocks t p q e (height_of t q +ℤ pos h)) z
-          (get_or mid k 0)) (c.requires.low k)
-          (columns_raised t p b e flags old mid c.requires.observer in_rows in_cols clear_columns q
-          inside flagged),
+    raised_open t o q _ _ (
+      subst
+          (λ (z : ℕ). IsRaised (λ h. column_blocks t p q e (height_of t q +ℤ pos h)) z (get_or mid k 0))
+          (c.requires.low k) (columns_raised t p b e flags old mid c.requires.observer in_rows in_cols
+          clear_columns q inside flagged),
       rows_raised t p b e flags mid new c.requires.observer in_rows in_cols are q inside flagged,
-    ))
-    clear_rows
+    )) clear_rows

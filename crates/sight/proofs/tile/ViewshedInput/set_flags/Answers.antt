@@ -12,6 +12,7 @@ returns c =
     let self = c.args.self.now in
     let b = c.args.bounds in
     let all : c.loop-row.row - b.top ≡ b.rows = omega arith in
-    subst (λ (n : ℕ). AreFlagsBelow b
+    subst (λ (n : ℕ).
+    AreFlagsBelow b
     (IsFlagOf c.args.check self.grid.now.terrain c.args.observer.now self.target_height self.radius)
     (n * b.cols) c.loop-row.flags) all c.loop-row.invariant

@@ -1,5 +1,4 @@
-use Rattle.std.proofs.Common.{arith, rules, refl, sym, ap, subst, ◌∙◌, ◌≡◌, ◌*◌, ℤ, length, get_or, Option, Some, Vec, Global}
-use Rattle.std.specs.Prelude.{slice_get}
+use Rattle.std.proofs.Common.{arith, rules, refl, sym, ap, subst, ◌∙◌, ◌*◌, ℤ, length, get_or, Option, Vec, Global}
 use Rattle.std.proofs.lemmas.Option.{slice_get_read}
 use Rattle.terrain.proofs.Places.{make_place}
 use Rattle.tiles.specs.Cutting.{IsInBounds, IsWithin}
@@ -14,8 +13,8 @@ index_of-requires-clause-inside c =
     let block = c.args.block in
     let first = make_place (block.row * 16) (block.col * 16) in
     let within : IsWithin c.args.self.now.tiles.now.tiling.now first = search rules in
-    rw c.blocks_begun-begun.ensures (begins_there c.bounds.result block
-    ((c.bounds.ensures.places first).0 (within, sym c.tile_of-tile.ensures.number)))
+    rw c.blocks_begun-begun.ensures
+    (begins_there _ block ((c.bounds.ensures.places first).0 (within, sym c.tile_of-tile.ensures.number)))
 
 pub returns : goal.returns
 returns c =
@@ -23,22 +22,22 @@ returns c =
     let t = ground_of tiles.blocks.now.cols tiles.blocks.now.rows tiles.blocks.now.cells.now in
     let tile = c.tile_of-tile.result in
     let list = c.index-self-tile.result in
-    let listed : IsTileTops tiles.tiling.now t tile list.items =
-    subst (λ (v : Vec (Option ℤ) Global). IsTileTops tiles.tiling.now t tile v.items)
-    (sym c.index-self-tile.is) (c.args.self.now.listed tile list c.tile_of-tile.ensures.below) in
-    let begun = c.blocks_begun-begun.ensures ∙ ap blocks_begun c.bounds.ensures.value in
-    let made = subst (λ (b : Bounds). IsMadeUpTo b (IsBlockTop 16 t) (b.rows * b.cols) list.items)
-    (sym begun) listed in
+    let listed =
+    subst (λ (v : Vec (Option ℤ) Global). IsTileTops tiles.tiling.now t tile v.items) (sym c.index-self-tile.is)
+    (c.args.self.now.listed tile list c.tile_of-tile.ensures.below) in
+    let made =
+    subst (λ (b : Bounds). IsMadeUpTo b (IsBlockTop 16 t) (b.rows * b.cols) list.items)
+    (sym (c.blocks_begun-begun.ensures ∙ ap blocks_begun c.bounds.ensures.value)) listed in
     let first = make_place (c.args.block.row * 16) (c.args.block.col * 16) in
     let within : IsWithin tiles.tiling.now first = search rules in
     let inside : IsInBounds c.blocks_begun-begun.result c.args.block =
-    rw c.blocks_begun-begun.ensures (begins_there c.bounds.result c.args.block
+    rw c.blocks_begun-begun.ensures (begins_there _ c.args.block
     ((c.bounds.ensures.places first).0 (within, sym c.tile_of-tile.ensures.number))) in
     let index = c.index_of.result in
-    let at : slice_get list.items index ≡ Some c.index.result.now =
-    slice_get_read list.items (length list.items) index c.index.result.now refl
-    (omega (arith, c.index_of.ensures.below, made.size)) (c.index.ensures
-    ∙ ap (λ (v : Vec (Option ℤ) Global). get_or v.items index c.index.result.now)
+    let at =
+    slice_get_read list.items (length list.items) index _ refl (omega (arith, c.index_of.ensures.below, made.size))
+    (c.index.ensures ∙
+    ap (λ (v : Vec (Option ℤ) Global). get_or v.items index c.index.result.now)
     (sym c.index-self-tile.is)) in
-    made.each c.args.block inside (rw c.index_of.ensures.value at c.index_of.ensures.below)
-    c.index.result.now (rw c.index_of.ensures.value at at)
+    made.each c.args.block inside (rw c.index_of.ensures.value at c.index_of.ensures.below) c.index.result.now
+    (rw c.index_of.ensures.value at at)

@@ -17,36 +17,28 @@ overflow_add-whole c =
 
 pub overflow_add-sight : goal.overflow_add-sight
 overflow_add-sight c =
-    let line = c.args.line in
-    (leapt_elevation line.from_elevation line.to_elevation c.args.start.sight c.args.self.rise
-    (steps_of line) c.args.first 16
-    c.requires.line.from_elevation c.requires.line.to_elevation (omega arith)
-    (omega arith) c.requires.start.sight c.requires.leap.rise).0
+    (leapt_elevation _ _ _ _ (steps_of c.args.line) c.args.first 16 c.requires.line.from_elevation
+    c.requires.line.to_elevation (omega arith) (omega arith) c.requires.start.sight c.requires.leap.rise).0
 
 pub overflow_sub-result : goal.overflow_sub-result
 overflow_sub-result c =
     let line = c.args.line in
-    let is = step_stays line.side.from line.side.to (steps_of line) c.args.first 16
-    c.args.self.ahead c.args.self.behind c.args.self.part (omega arith) c.requires.leap.gains.sum
-    (omega (arith, c.requires.start.part)) in
-    omega (arith, is.0, c.requires.start.whole)
+    let is =
+    step_stays line.side.from line.side.to (steps_of line) c.args.first 16 c.args.self.ahead c.args.self.behind
+    c.args.self.part (omega arith) c.requires.leap.gains.sum (omega arith) in
+    omega arith
 
 pub returns-then-part-steps : goal.returns-then-part-steps
 returns-then-part-steps c =
     let line = c.args.line in
     let end : c.args.first + 16 ≡ c.args.end = omega arith in
-    let is = rw end at (step_stays line.side.from line.side.to (steps_of line) c.args.first 16
-    c.args.self.ahead c.args.self.behind c.args.self.part (omega arith) c.requires.leap.gains.sum
-    (omega (arith, c.requires.start.part))) in
-    let elevation = rw end at (leapt_elevation line.from_elevation line.to_elevation
-    c.args.start.sight c.args.self.rise (steps_of line) c.args.first 16
-    c.requires.line.from_elevation c.requires.line.to_elevation (omega arith)
-    (omega arith) c.requires.start.sight c.requires.leap.rise) in
-    record {
-      whole = omega (arith, is.0, c.requires.start.whole);
-      part = omega (arith, is.1, c.requires.start.part);
-      sight = elevation.1;
-    }
+    let is =
+    rw end at (step_stays line.side.from line.side.to (steps_of line) c.args.first 16 c.args.self.ahead
+    c.args.self.behind c.args.self.part (omega arith) c.requires.leap.gains.sum (omega arith)) in
+    let elevation =
+    rw end at (leapt_elevation _ _ _ _ (steps_of line) c.args.first 16 c.requires.line.from_elevation
+    c.requires.line.to_elevation (omega arith) (omega arith) c.requires.start.sight c.requires.leap.rise) in
+    record { whole = omega arith; part = omega arith; sight = elevation.1 }
 
 pub overflow_add-result : goal.overflow_add-result
 overflow_add-result c =
@@ -62,27 +54,20 @@ pub overflow_sub-result-2 : goal.overflow_sub-result-2
 overflow_sub-result-2 c =
     let line = c.args.line in
     let gains = c.requires.leap.gains in
-    let is = step_passes line.side.from line.side.to
-    (steps_of line) c.args.first 16 c.args.self.ahead c.args.self.behind c.args.self.part
-    (omega arith) (omega arith) gains.sum gains.below
-    (omega (arith, c.requires.start.part)) in
-    omega (arith, is.0, c.requires.start.whole)
+    let is =
+    step_passes line.side.from line.side.to _ c.args.first 16 c.args.self.ahead c.args.self.behind _ (omega arith)
+    (omega arith) gains.sum gains.below (omega arith) in
+    omega arith
 
 pub returns : goal.returns
 returns c =
     let line = c.args.line in
     let gains = c.requires.leap.gains in
     let end : c.args.first + 16 ≡ c.args.end = omega arith in
-    let is = rw end at (step_passes line.side.from line.side.to
-    (steps_of line) c.args.first 16 c.args.self.ahead c.args.self.behind c.args.self.part
-    (omega arith) (omega arith) gains.sum gains.below
-    (omega (arith, c.requires.start.part))) in
-    let elevation = rw end at (leapt_elevation line.from_elevation line.to_elevation
-    c.args.start.sight c.args.self.rise (steps_of line) c.args.first 16
-    c.requires.line.from_elevation c.requires.line.to_elevation (omega arith)
-    (omega arith) c.requires.start.sight c.requires.leap.rise) in
-    record {
-      whole = omega (arith, is.0, c.requires.start.whole);
-      part = omega (arith, is.1, c.requires.start.part);
-      sight = elevation.1;
-    }
+    let is =
+    rw end at (step_passes line.side.from line.side.to _ c.args.first 16 c.args.self.ahead c.args.self.behind _
+    (omega arith) (omega arith) gains.sum gains.below (omega arith)) in
+    let elevation =
+    rw end at (leapt_elevation _ _ _ _ (steps_of line) c.args.first 16 c.requires.line.from_elevation
+    c.requires.line.to_elevation (omega arith) (omega arith) c.requires.start.sight c.requires.leap.rise) in
+    record { whole = omega arith; part = omega arith; sight = elevation.1 }

@@ -8,8 +8,7 @@ returns-then-self c =
     let line = c.args.self in
     omega (
       arith,
-      lead_up_is line.lead.from line.lead.to (steps_of line) c.args.step (omega arith) (omega arith)
-          (omega arith),
+      lead_up_is line.lead.from line.lead.to (steps_of line) c.args.step (omega arith) (omega arith) (omega arith),
     )
 
 pub returns-else-self : goal.returns-else-self
@@ -17,6 +16,5 @@ returns-else-self c =
     let line = c.args.self in
     omega (
       arith,
-      lead_down_is line.lead.from line.lead.to (steps_of line) c.args.step (omega arith)
-          (omega arith) (omega arith),
+      lead_down_is line.lead.from line.lead.to (steps_of line) c.args.step (omega arith) (omega arith) (omega arith),
     )
