@@ -1,25 +1,24 @@
 //! Floods a [`CellNet`] from its lowest cells up: [`flood_by_height`].
 //!
-//! First each source gets its height as level, and itself as label. Then labelled nodes spread, the
-//! lowest first: a node gives its label to each unlabelled data cell around it. The cell's level is
-//! the greater of its height and the node's level. Cells at the node's level spread next, higher
-//! ones in their turn.
+//! The nodes take turns, the lowest first. In its turn a source gets itself as label, any other
+//! node the label of a node around it, and its level is its height. It waits if no node around it
+//! has a label: it lies in a depression. A node that gets a label gives it, and its level, to the
+//! nodes around it that wait, and these to others.
 //!
-//! Two labels meet where a node that spreads finds a node with another label. Meetings are listed
+//! Two labels meet where a node has a label and a node around it another one. Meetings are listed
 //! unless the two labels have met before, if only by way of others.
 //!
 //! The order of the nodes carries no promise. So the end certifies the flood: there is none where a
-//! node was taken below the level that the flood had come to, or where a labelled one did not
-//! spread.
-ghost use Rattle.std.specs.Prelude.{◌≡◌, ◌≢◌, ◌<◌, [], ℕ, ℤ, All, IfOk, IfSome, IsSome, OnOk, Some, false, length, slice_index_or, true, unwrap_or};
+//! node is lower than one whose turn came before, where a data cell has no label, or where a cell
+//! that rose above its height has a lower one beside it.
+ghost use Rattle.std.specs.Prelude.{◌≡◌, ◌<◌, ◌≤◌, [], ℕ, ℤ, All, IfOk, IfSome, IsSome, OnOk, Some, length, replicate, unwrap_or};
 ghost use Rattle.std.specs.Bool.{OnTrue};
-ghost use Rattle.std.specs.Int.{int_max};
 ghost use Rattle.terrain.specs.StoredCells.{no_data};
 ghost use Rattle.floods.specs.Flood.{entry_of};
 ghost use Rattle.floods.specs.Notes.{no_label, numbered_labels};
 ghost use Rattle.floods.specs.Walk.{IsFlooded};
 ghost use Rattle.cell_floods.specs.Cells.{IsCellJoin, source_of};
-ghost use Rattle.cell_floods.specs.Spreading.{AreMeetings, HasSources, IsNodeMeeting, IsPartFlood, Reaches, Spreads, level_of, number_of};
+ghost use Rattle.cell_floods.specs.Spreading.{AreLabelled, HasLabel, HasSources, IsBesideLabel, IsHeld, IsNodeMeeting, IsNoneBelow, IsNumberOf, IsSound, Spreads, level_of, number_of, waiting};
 
 use crate::cell_net::CellNet;
 use crate::label_sets::LabelSets;
@@ -31,6 +30,12 @@ use terrain::{Cell, Height};
 
 /// The number stored for a node without a label; [`floods::label_of`] decodes labels.
 const NO_LABEL: u32 = u32::MAX;
+
+/// The number stored for a source before its turn.
+const SOURCE: u32 = u32::MAX - 1;
+
+/// The number stored for a node that waits. It is above all labels, which are nodes.
+const WAITING: u32 = u32::MAX - 2;
 
 /// A node of the border, whose set has all sources inside the rim. These are end cells, and no way
 /// from one end cell to another is of use.
@@ -47,31 +52,27 @@ pub(crate) struct NodeFlood {
     pub(crate) lowest: Height,
 }
 
-/// The levels and labels of a net's nodes while the labelled ones spread.
+/// The levels and labels of a net's nodes while these take turns.
 #[derive(Drop)]
 struct Spreading<'a> {
     net: &'a CellNet,
+    /// A node without a label has its height.
     levels: Vec<Cell>,
+    /// Labels, [`NO_LABEL`], [`SOURCE`] or [`WAITING`].
     labels: Vec<u32>,
-    has_spread: Vec<bool>,
-    /// Nodes at the level that the flood has come to, which are to spread.
-    waiting: Vec<u32>,
+    /// Nodes that waited and have a label now, which they are to give to others.
+    woken: Vec<u32>,
     meetings: Vec<Meeting>,
     /// The sets of labels that have met.
     sets: LabelSets,
 }
 
-/// Returns the higher of two cells with data.
-#[inline(always)]
-fn higher(cell: Cell, level: Cell) -> Cell
-    ensures { (height : ℤ) → cell ≡ Some height → IsSome level →
-        result ≡ Some (int_max height (unwrap_or level no_data)) }
-{
-    if cell.number() > level.number() {
-        cell
-    } else {
-        level
-    }
+/// What numbers the eight nodes around a node have.
+struct NumbersAround {
+    /// The least number, a label if one of the nodes has a label.
+    least: u32,
+    /// Whether one of the nodes has another label, or waits.
+    differ: bool,
 }
 
 /// Makes each of some nodes a set of its own: `first`, and others by steps of `step`.
@@ -93,31 +94,55 @@ fn part_rim(sets: &mut LabelSets, net: &CellNet) {
     part_line(sets, stride.wrapping_sub(2), stride, rows);
 }
 
+/// Returns what numbers these nodes have.
+#[inline(always)]
+fn numbers_around(labels: &[u32], around: &[u32; 8]) -> NumbersAround
+    requires { All (λ b. b < length labels.now) around.now }
+    ensures { result.least < waiting → IsNumberOf labels.now around.now result.least }
+{
+    let mut least = NO_LABEL;
+    let mut most: u32 = 0;
+    for node in around {
+        // No branch: which nodes have labels is hard to guess.
+        let number = labels[*node as usize];
+        least = least.min(number);
+        // `WAITING` becomes the greatest number, the other two the least.
+        most = most.max(number.wrapping_add(2));
+    }
+    NumbersAround {
+        least,
+        differ: most != least.wrapping_add(2),
+    }
+}
+
 impl<'a> Spreading<'a> {
-    /// Makes the state before any node is labelled.
+    /// Makes the state before any node has a label.
     fn of_unlabelled(alloc: Global, net: &'a CellNet) -> Result<Self, AllocError>
         ensures net { IfOk result (λ x. x.net.now ≡ net.now) }
-        ensures sources { IfOk result (λ x.
-            HasSources 0 net.now x.levels.items x.labels.items x.has_spread.items) }
+        ensures levels { IfOk result (λ x. x.levels.items ≡ net.now.cells) }
+        ensures labels { IfOk result (λ x.
+            x.labels.items ≡ replicate (length net.now.cells) no_label) }
         ensures meetings { IfOk result (λ x. x.meetings.items ≡ []) }
     {
         let count = net.cells().len();
+        let mut levels = Vec::with_capacity(alloc, count)?;
+        levels.extend_from_slice(net.cells())?;
         Ok(Spreading {
             net,
-            levels: vec![in alloc; Cell::no_data(); count]?,
+            levels,
             labels: vec![in alloc; NO_LABEL; count]?,
-            has_spread: vec![in alloc; false; count]?,
-            waiting: Vec::new(alloc),
+            woken: Vec::new(alloc),
             meetings: Vec::new(alloc),
             sets: LabelSets::of_nodes(alloc, net.nodes())?,
         })
     }
 
-    /// Makes the state in which the sources are labelled, and no other node.
+    /// Makes the state before the first turn.
     fn of_sources(alloc: Global, net: &'a CellNet) -> Result<Self, AllocError>
         ensures net { IfOk result (λ x. x.net.now ≡ net.now) }
-        ensures sources { IfOk result (λ x. HasSources (length net.now.cells) net.now
-            x.levels.items x.labels.items x.has_spread.items) }
+        ensures levels { IfOk result (λ x. x.levels.items ≡ net.now.cells) }
+        ensures sources { IfOk result (λ x.
+            HasSources (length net.now.cells) net.now x.labels.items) }
         ensures meetings { IfOk result (λ x. x.meetings.items ≡ []) }
     {
         let mut spreading = Self::of_unlabelled(alloc, net)?;
@@ -125,8 +150,7 @@ impl<'a> Spreading<'a> {
         let mut node = net.next_candidate(0);
         while node < count {
             if net.source(node).is_some() {
-                spreading.levels[node as usize] = net.cells()[node as usize];
-                spreading.labels[node as usize] = node;
+                spreading.labels[node as usize] = SOURCE;
                 spreading.sets.set_parent(node, ENDS);
             }
             node = net.next_candidate(node + 1);
@@ -135,67 +159,64 @@ impl<'a> Spreading<'a> {
         Ok(spreading)
     }
 
-    /// Lists the meeting of a label, at this level, with that of node `to`.
-    /// Does not where the two have met before, or where `to` is higher: it finds the meeting then.
+    /// Lists the meeting of a label, at this level, with the label of node `to`, if the two have
+    /// not met before.
     #[inline(never)]
     fn meet(&mut self, to: u32, label: u32, level: Cell) -> Result<(), AllocError>
-        requires sizes { length self.old.labels.items ≡ length self.old.levels.items }
-        requires labelled { IsSome (entry_of self.old.levels.items to) }
         requires level { IsSome level }
-        ensures { OnOk result (Reaches (unwrap_or level no_data) label to self.old self.new) }
+        requires beside { IsBesideLabel (unwrap_or level no_data) label to self.old }
+        requires labelled { HasLabel self.old.labels.items to }
+        requires sound { IsSound (unwrap_or level no_data) self.old }
+        ensures { OnOk result (Spreads (unwrap_or level no_data) self.old self.new) }
     {
-        let level = level.number();
         let own = self.labels[to as usize];
-        if self.levels[to as usize].number() <= level && self.sets.unite(label, own) {
+        if self.sets.unite(label, own) {
             self.meetings.push(Meeting {
                 from: label,
                 to: own,
-                level,
+                level: level.number(),
             })?;
         }
         Ok(())
     }
 
-    /// Labels node `to`, which has no label, from a node of this label and level, if it is a data
-    /// cell. Opens it where its level is that of the other node.
+    /// Gives node `to`, which waits, this label and level, if its height is at most that level.
     #[inline(never)]
-    fn label_cell(&mut self, to: u32, label: u32, level: Cell) -> Result<(), AllocError>
-        requires to { to < length self.old.net.now.cells }
-        requires sizes { (now : ℤ) × IsPartFlood now self.old }
-        requires unlabelled { number_of self.old.labels.items to ≡ no_label }
+    fn wake(&mut self, to: u32, label: u32, level: Cell) -> Result<(), AllocError>
         requires level { IsSome level }
-        ensures { OnOk result (Reaches (unwrap_or level no_data) label to self.old self.new) }
+        requires beside { IsBesideLabel (unwrap_or level no_data) label to self.old }
+        requires waits { number_of self.old.labels.items to ≡ waiting }
+        requires sound { IsSound (unwrap_or level no_data) self.old }
+        ensures { OnOk result (Spreads (unwrap_or level no_data) self.old self.new) }
     {
-        let cell = self.net.cells()[to as usize];
-        let Some(height) = cell.height() else {
+        let Some(height) = self.levels[to as usize].height() else {
             return Ok(());
         };
-        self.labels[to as usize] = label;
-        self.levels[to as usize] = higher(cell, level);
         if height <= level.number() {
-            self.waiting.push(to)?;
+            self.labels[to as usize] = label;
+            self.levels[to as usize] = level;
+            self.woken.push(to)?;
         }
         Ok(())
     }
 
-    /// Labels node `to` from a node of this label and level, if it is an unlabelled data cell.
-    /// Opens it where its level is that of the other node. If it has another label, that one meets
-    /// `label`, unless the sets tell that they have met: `set` is that of `label`.
-    // What is rare is called, so that the loop over eight nodes is short enough to be unrolled.
+    /// Gives node `to` the label and level of a node beside it, if it waits.
+    /// If it has another label, the two labels meet, unless the sets tell that they have met:
+    /// `set` is that of `label`.
     #[inline(always)]
     fn reach(&mut self, to: u32, label: u32, set: u32, level: Cell) -> Result<(), AllocError>
         requires to { to < length self.old.net.now.cells }
-        requires sizes { (now : ℤ) × IsPartFlood now self.old }
         requires level { IsSome level }
-        requires label { label < no_label }
-        ensures { OnOk result (Reaches (unwrap_or level no_data) label to self.old self.new) }
+        requires beside { IsBesideLabel (unwrap_or level no_data) label to self.old }
+        requires sound { IsSound (unwrap_or level no_data) self.old }
+        ensures { OnOk result (Spreads (unwrap_or level no_data) self.old self.new) }
     {
         let own = self.labels[to as usize];
-        if own == label {
+        if own == label || own > WAITING {
             return Ok(());
         }
-        if own == NO_LABEL {
-            return self.label_cell(to, label, level);
+        if own == WAITING {
+            return self.wake(to, label, level);
         }
         if self.sets.set_of(own) == set {
             return Ok(());
@@ -203,11 +224,10 @@ impl<'a> Spreading<'a> {
         self.meet(to, label, level)
     }
 
-    /// Lets a labelled node spread.
+    /// Lets a labelled node reach the nodes around it.
     fn spread(&mut self, node: u32) -> Result<(), AllocError>
-        requires labelled { IsSome (entry_of self.old.levels.items node) }
-        requires part { IsPartFlood (level_of self.old node) self.old }
-        requires meetings { AreMeetings self.old }
+        requires labelled { HasLabel self.old.labels.items node }
+        requires sound { IsSound (level_of self.old node) self.old }
         ensures { OnOk result (Spreads (level_of self.old node) self.old self.new) }
     {
         let level = self.levels[node as usize];
@@ -216,28 +236,28 @@ impl<'a> Spreading<'a> {
         for to in self.net.around(node) {
             self.reach(to, label, set, level)?;
         }
-        self.has_spread[node as usize] = true;
         Ok(())
     }
 
-    /// Returns whether a node has this level.
+    /// Returns whether a node has a label and this level.
     #[inline(always)]
     fn is_at(&self, node: u32, level: Cell) -> bool
-        ensures { OnTrue result (IsSome level →
-            entry_of self.now.levels.items node ≡ level) }
+        ensures { OnTrue result (HasLabel self.now.labels.items node
+            × (entry_of self.now.levels.items node ≡ level)) }
     {
-        match self.levels.get(node as usize) {
-            Some(own) => own.is_level_with(level),
-            None => false,
+        match (
+            self.labels.get(node as usize),
+            self.levels.get(node as usize),
+        ) {
+            (Some(label), Some(own)) => *label < WAITING && own.is_level_with(level),
+            _ => false,
         }
     }
 
-    /// Lets a labelled node spread, and then all nodes that this opens.
-    #[inline(always)]
+    /// Lets a labelled node reach the nodes around it, and then all that this wakes.
     fn spread_from(&mut self, first: u32) -> Result<(), AllocError>
-        requires labelled { IsSome (entry_of self.old.levels.items first) }
-        requires part { IsPartFlood (level_of self.old first) self.old }
-        requires meetings { AreMeetings self.old }
+        requires labelled { HasLabel self.old.labels.items first }
+        requires sound { IsSound (level_of self.old first) self.old }
         ensures { OnOk result (Spreads (level_of self.old first) self.old self.new) }
     {
         let level = self.levels[first as usize];
@@ -246,36 +266,113 @@ impl<'a> Spreading<'a> {
             if self.is_at(node, level) {
                 self.spread(node)?;
             }
-            next = self.waiting.pop();
+            next = self.woken.pop();
         }
         Ok(())
     }
 
-    /// Returns the level of a labelled node that has not spread.
+    /// Returns the height of a node without a label.
     #[inline(always)]
-    fn waiting_level(&self, node: u32) -> Option<Height>
-        ensures { IfSome result (λ level. entry_of self.now.levels.items node ≡ Some level) }
+    fn height_in_turn(&self, node: u32) -> Option<Height>
+        ensures { IfSome result (λ height.
+            (waiting ≤ number_of self.now.labels.items node)
+            × (entry_of self.now.levels.items node ≡ Some height)) }
     {
-        let level = self.levels.get(node as usize)?;
-        if *self.has_spread.get(node as usize)? {
+        if *self.labels.get(node as usize)? < WAITING {
             return None;
         }
-        level.height()
+        self.levels.get(node as usize)?.height()
     }
 
-    /// Returns whether all labelled nodes have spread.
-    fn is_complete(&self) -> bool
-        requires { length self.now.has_spread.items ≡ length self.now.labels.items }
-        ensures { OnTrue result ((a : ℕ) → a < length self.now.labels.items →
-            number_of self.now.labels.items a ≢ no_label →
-            slice_index_or self.now.has_spread.items a false ≡ true) }
+    /// Lets a node without a label take its turn: the flood has come to its height.
+    #[inline(always)]
+    fn take_turn(&mut self, node: u32) -> Result<(), AllocError>
+        requires free { waiting ≤ number_of self.old.labels.items node }
+        requires data { IsSome (entry_of self.old.levels.items node) }
+        requires sound { IsSound (level_of self.old node) self.old }
+        ensures { OnOk result (Spreads (level_of self.old node) self.old self.new) }
     {
+        if self.labels[node as usize] == SOURCE {
+            self.labels[node as usize] = node;
+            return self.spread_from(node);
+        }
+        let NumbersAround { least, differ } = numbers_around(&self.labels, &self.net.around(node));
+        if least >= WAITING {
+            self.labels[node as usize] = WAITING;
+            return Ok(());
+        }
+        self.labels[node as usize] = least;
+        if differ {
+            return self.spread_from(node);
+        }
+        Ok(())
+    }
+
+    /// Returns whether each data cell has a label, and no other node has a number of another kind.
+    fn are_labelled(&self) -> bool
+        requires { length self.now.labels.items ≡ length self.now.net.now.cells }
+        ensures { OnTrue result (AreLabelled self.now.net.now self.now.labels.items) }
+    {
+        let cells = self.net.cells();
         let mut all = true;
         for node in 0..self.labels.len() {
             // No branch, so that several nodes are tested at once.
-            all &= (self.labels[node] == NO_LABEL) | self.has_spread[node];
+            let is_gap = cells[node].height().is_none() & (self.labels[node] == NO_LABEL);
+            all &= is_gap | (self.labels[node] < WAITING);
         }
         all
+    }
+
+    /// Returns whether a node has its height as level, or no lower node around it.
+    #[inline(always)]
+    fn is_held(&self, node: u32) -> bool
+        requires node { node < length self.now.net.now.cells }
+        requires size { length self.now.levels.items ≡ length self.now.net.now.cells }
+        ensures { OnTrue result (IsHeld self.now.net.now self.now.levels.items node) }
+    {
+        let level = self.levels[node as usize];
+        let cell = self.net.cells()[node as usize];
+        level.is_level_with(cell)
+            || cell.height().is_some() && self.has_none_below(&self.net.around(node), level)
+    }
+
+    /// Returns whether none of these nodes has a level below this one.
+    #[inline(always)]
+    fn has_none_below(&self, around: &[u32; 8], level: Cell) -> bool
+        requires { All (λ b. b < length self.now.levels.items) around.now }
+        ensures { OnTrue result
+            (All (IsNoneBelow (unwrap_or level no_data) self.now.levels.items) around.now) }
+    {
+        let mut none = true;
+        for node in around {
+            none &= level.number() <= self.levels[*node as usize].number();
+        }
+        none
+    }
+
+    /// Returns whether each node has its height as level, or no lower node around it.
+    fn are_held(&self) -> bool
+        requires { length self.now.levels.items ≡ length self.now.net.now.cells }
+        ensures { OnTrue result ((a : ℕ) → a < length self.now.net.now.cells →
+            IsHeld self.now.net.now self.now.levels.items a) }
+    {
+        for node in 0..self.net.nodes() {
+            if !self.is_held(node) {
+                return false;
+            }
+        }
+        true
+    }
+
+    /// Returns whether the levels and labels are those of the net's flood: their certificate.
+    fn is_flooded(&self) -> bool
+        requires labels { length self.now.labels.items ≡ length self.now.net.now.cells }
+        requires levels { length self.now.levels.items ≡ length self.now.net.now.cells }
+        ensures { OnTrue result (AreLabelled self.now.net.now self.now.labels.items
+            × ((a : ℕ) → a < length self.now.net.now.cells →
+            IsHeld self.now.net.now self.now.levels.items a)) }
+    {
+        self.are_labelled() && self.are_held()
     }
 }
 
@@ -297,16 +394,16 @@ pub(crate) fn flood_by_height(alloc: Global, net: &CellNet) -> Result<Option<Nod
     let mut spreading = Spreading::of_sources(alloc, net)?;
     let mut now = Height::MIN;
     for node in &order {
-        let Some(level) = spreading.waiting_level(*node) else {
+        let Some(height) = spreading.height_in_turn(*node) else {
             continue;
         };
-        if level < now {
+        if height < now {
             return Ok(None);
         }
-        now = level;
-        spreading.spread_from(*node)?;
+        now = height;
+        spreading.take_turn(*node)?;
     }
-    if !spreading.is_complete() {
+    if !spreading.is_flooded() {
         return Ok(None);
     }
     Ok(Some(NodeFlood {

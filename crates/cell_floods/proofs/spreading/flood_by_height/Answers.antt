@@ -1,16 +1,15 @@
-use Rattle.std.proofs.Common.{rules, arith, inl, inr, ap, length, ◌≡◌, ◌≤◌, ◌≤ℤ◌, Some, subst, sym, true, unwrap_or, ◌∙◌}
+use Rattle.std.proofs.Common.{rules, arith, length, ◌≡◌, ◌≤ℤ◌, subst, sym, true, unwrap_or, ◌∙◌}
 use mir.Val.{SFits}
+use Rattle.std.specs.List.{All}
 use Rattle.std.proofs.lemmas.Bool.{OnTrue_at}
 use Rattle.std.proofs.lemmas.Int.{to_z-of_z}
 use Rattle.terrain.proofs.Heights.{height_width}
 use Rattle.terrain.specs.StoredCells.{no_data}
-use Rattle.std.specs.List.{All}
-use Rattle.terrain.proofs.Options.{cases_option, none_done, some_inside}
-use Rattle.floods.specs.Flood.{entry_of}
 use Rattle.floods.specs.Notes.{numbered_labels}
-use Rattle.cell_floods.specs.Cells.{source_of}
-use Rattle.cell_floods.specs.Spreading.{IsNodeMeeting, IsPart, IsPartFlood, Spreads}
-use Rattle.cell_floods.proofs.SpreadSteps.{begun, flooded, label_stored, later, sources_are, sources_kept}
+use Rattle.floods.specs.Walk.{IsFlooded}
+use Rattle.cell_floods.specs.Cells.{Cells, IsBordered, IsCellJoin, source_of}
+use Rattle.cell_floods.specs.Spreading.{IsNodeMeeting, IsPart, IsSound, Spreads}
+use Rattle.cell_floods.proofs.SpreadSteps.{begun, flooded, later}
 use Rattle.cell_floods.proofs.spreading.flood_by_height.Goals as goal
 
 pub loop-node-init : goal.loop-node-init
@@ -19,60 +18,42 @@ loop-node-init c =
     let is = c.in_ok-spreading.ensures in
     record {
       net = is.net;
-      part = subst (λ n. IsPart _ n x.levels.items x.labels.items x.has_spread.items) (sym is.net)
-          (begun _ _ c.args.net.now _ _ _ is.sources);
-      meetings = rw is.meetings (λ k d low. absurd (omega (arith, low)));
-      sources = λ a h source. sources_are c.args.net.now _ _ _ is.sources a h
-          (subst (λ n. source_of n a ≡ Some h) is.net source);
+      sound = record {
+        part = subst (λ n. IsPart _ n x.levels.items x.labels.items) (sym is.net)
+            (begun _ c.args.net.now _ _ c.cells.ensures.bordered is.levels is.sources);
+        meetings = rw is.meetings (λ k d low. absurd (omega (arith, low)));
+      };
     }
 
-pub spread_from-requires-clause-part : goal.spread_from-requires-clause-part
-spread_from-requires-clause-part c =
-    let up : c.loop-node.now ≤ℤ c.in-Some.level = search rules in
-    subst (λ o. IsPartFlood (unwrap_or o no_data) c.loop-node.spreading) (sym c.in-Some.ensures)
-    (later c.loop-node.now c.in-Some.level _ _ _ _ up
-    (subst (λ z. IsPartFlood z c.loop-node.spreading) c.loop-node.now-is c.loop-node.invariant.part))
+pub take_turn-requires-clause-sound : goal.take_turn-requires-clause-sound
+take_turn-requires-clause-sound c =
+    let x = c.loop-node.spreading in
+    let up : c.loop-node.now ≤ℤ c.in-Some.height = search rules in
+    subst (λ o. IsSound (unwrap_or o no_data) x) (sym c.in-Some.ensures.1)
+    (later c.loop-node.now c.in-Some.height x up
+    (subst (λ z. IsSound z x) c.loop-node.now-is c.loop-node.invariant.sound))
 
 pub loop-node-preserved : goal.loop-node-preserved
 loop-node-preserved c =
-    let fits : SFits height_width c.in-Some.level = search rules in
-    let before = c.loop-node.invariant in
+    let fits : SFits height_width c.in-Some.height = search rules in
     let spread = subst (λ o. Spreads (unwrap_or o no_data) c.loop-node.spreading
-    c.spread_from.new.self) c.in-Some.ensures c.in_ok-spread_from.ensures in
-    rw (to_z-of_z height_width c.in-Some.level fits) (record {
-      net = spread.net ∙ before.net;
-      part = spread.part;
-      meetings = spread.meetings;
-      sources = sources_kept c.loop-node.spreading c.spread_from.new.self spread.net spread.kept
-          before.sources;
-    })
+    c.take_turn.new.self) c.in-Some.ensures.1 c.in_ok-take_turn.ensures in
+    rw (to_z-of_z height_width c.in-Some.height fits)
+    (record { net = spread.net ∙ c.loop-node.invariant.net; sound = spread.sound })
 
 pub returns-clause-flooded : goal.returns-clause-flooded
 returns-clause-flooded c =
-    let n = c.args.net.now in
     let x = c.loop-node.spreading in
     let end = c.loop-node.invariant in
-    let complete : c.is_complete.result ≡ true = search rules in
-    let part = subst (λ z. IsPartFlood z x) c.loop-node.now-is end.part in
-    let spread = OnTrue_at complete c.is_complete.ensures in
-    flooded c.loop-node.now n x.levels.items x.labels.items x.has_spread.items
-    c.cells.ensures.bordered
-    (subst (λ m. IsPart c.loop-node.now m x.levels.items x.labels.items x.has_spread.items)
-    end.net part)
-    (λ a h source. end.sources a h (subst (λ m. source_of m a ≡ Some h) (sym end.net) source))
-    (λ a some. elim (cases_option (entry_of x.levels.items a)) [
-      | inl none ↦ none_done _ none some
-      | inr found ↦
-          let few = subst (λ m. length m.cells ≤ 16793604) (sym end.net)
-          (omega (arith, c.cells.ensures.few, ap length c.cells.ensures.value)) in
-          let label = (label_stored c.loop-node.now _ _ _ _ a found.0 part few found.1).0 in
-          let low = some_inside x.levels.items a found.0 found.1 in
-          spread a (omega (arith, low, part.levels_size, part.labels_size)) (λ is. absurd (omega (arith, label, is)))
-    ])
+    let complete : c.is_flooded.result ≡ true = search rules in
+    let certain = OnTrue_at complete c.is_flooded.ensures in
+    subst (λ (m : Cells). IsFlooded (IsCellJoin m) (source_of m) (length m.cells) x.levels.items
+    (numbered_labels x.labels.items)) end.net (flooded _ x.net.now _ _
+    (subst IsBordered (sym end.net) c.cells.ensures.bordered) end.sound.part certain.0 certain.1)
 
 pub returns-clause-meetings : goal.returns-clause-meetings
 returns-clause-meetings c =
     let x = c.loop-node.spreading in
     let end = c.loop-node.invariant in
     subst (λ m. All (IsNodeMeeting m x.levels.items (numbered_labels x.labels.items)) x.meetings.items)
-    end.net end.meetings
+    end.net (λ k d low. (end.sound.meetings k d low).2)

@@ -1,11 +1,9 @@
 use Rattle.std.proofs.Common.{◌≡◌}
-use Rattle.cell_floods.specs.Spreading.{AreMeetings, AreSourcesLabelled, IsPartFlood}
+use Rattle.cell_floods.specs.Spreading.{IsSound}
 use Rattle.cell_floods.proofs.spreading.flood_by_height.Given as goal
 
 abbrev pub invariant-loop-node : goal.invariant-loop-node
 invariant-loop-node l = record {
   net : l.spreading.net.now ≡ l.net;
-  part : IsPartFlood l.now l.spreading;
-  meetings : AreMeetings l.spreading;
-  sources : AreSourcesLabelled l.spreading;
+  sound : IsSound l.now l.spreading;
 }

@@ -1,19 +1,15 @@
-use Rattle.std.proofs.Common.{◌≡◌, ◌+◌, ◌<◌, inl, inr, ap, arith, length, None, Some, set, subst, sym, ◌∙◌}
+use Rattle.std.proofs.Common.{◌≡◌, ◌+◌, inl, inr, ap, arith, None, Some, sym, ◌∙◌}
 use Rattle.std.proofs.lemmas.Bool.{cases_eq}
-use Rattle.std.proofs.lemmas.List.{get_or_default}
 use Rattle.terrain.proofs.Options.{none_from_is_some}
-use Rattle.floods.specs.Flood.{entry_of}
 use Rattle.cell_floods.specs.Cells.{source_of}
-use Rattle.cell_floods.specs.Spreading.{HasSources}
 use Rattle.cell_floods.proofs.Rectangles.{data_is}
-use Rattle.cell_floods.proofs.SpreadSteps.{source_cell, source_labelled, sources_passed}
+use Rattle.cell_floods.proofs.SpreadSteps.{source_stored, sources_passed}
 use Rattle.cell_floods.proofs.spreading.Spreading.of_sources.Goals as goal
 use Rattle.cell_floods.proofs.spreading.Spreading.of_sources.Goals.{then-is_some, else-is_some}
 
 pub loop-node-preserved : goal.loop-node-preserved
 loop-node-preserved c =
     let n = c.args.net.now in
-    let x = c.loop-node.spreading in
     let node = c.loop-node.node in
     let before = c.loop-node.invariant in
     let next = c.next_candidate-node-in-loop-node.ensures in
@@ -21,27 +17,23 @@ loop-node-preserved c =
       | then-is_some w ↦
           let source = data_is c.source.result (sym w.if-is_some.ensures) in
           let is : source_of n node ≡ Some source.0 = sym c.source.ensures ∙ source.1 in
-          let low : node < length w.cells.result.now =
-          omega (arith, c.loop-node-test.true, c.nodes-count.ensures, ap length w.cells.ensures.value) in
-          let cell : w.index-cells-node.result ≡ Some source.0 =
-          w.index-cells-node.is ∙ get_or_default w.cells.result.now node w.index-cells-node.result None low
-          ∙ ap (λ z. entry_of z node) w.cells.ensures.value ∙ source_cell n node source.0 is in
           rw w.spreading-is (record {
             net = before.net;
+            levels = before.levels;
             meetings = before.meetings;
             inside = next.inside;
-            sources = sources_passed (node + 1) _ n _ _ _ (subst (λ o. HasSources (node + 1) n
-                (set x.levels.items node o) (set x.labels.items node node) x.has_spread.items)
-                (sym cell) (source_labelled node source.0 n _ _ _ before.sources is)) next.passed;
+            sources = sources_passed (node + 1) _ n _
+                (source_stored node source.0 n _ before.sources is) next.passed;
           })
       | else-is_some w ↦
           let none : source_of n node ≡ None =
           sym c.source.ensures ∙ none_from_is_some c.source.result (sym w.if-is_some.ensures) in
           rw w.spreading-is (record {
             net = before.net;
+            levels = before.levels;
             meetings = before.meetings;
             inside = next.inside;
-            sources = sources_passed node _ n _ _ _ before.sources (λ a low high. elim (cases_eq a node) [
+            sources = sources_passed node _ n _ before.sources (λ a low high. elim (cases_eq a node) [
               | inl same ↦ ap (source_of n) same ∙ none
               | inr other ↦ next.passed a (omega (arith, low, other)) high
             ]);

@@ -5,10 +5,10 @@ use Rattle.cell_floods.proofs.spreading.Spreading.of_sources.Given as goal
 abbrev pub invariant-loop-node : goal.invariant-loop-node
 invariant-loop-node l = record {
   net : l.spreading.net.now ≡ l.net;
+  levels : l.spreading.levels.items ≡ l.net.cells;
   meetings : l.spreading.meetings.items ≡ [];
   inside : l.node ≤ length l.net.cells;
-  sources : HasSources l.node l.net l.spreading.levels.items l.spreading.labels.items
-      l.spreading.has_spread.items;
+  sources : HasSources l.node l.net l.spreading.labels.items;
 }
 
 abbrev pub decreases-loop-node : goal.decreases-loop-node
