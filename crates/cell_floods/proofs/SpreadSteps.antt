@@ -242,7 +242,9 @@ module _ (now : ℤ) (n : Cells) (levels : List (Option ℤ)) (labels : List ℕ
 label_number : (number label : ℕ) → label_of number ≡ Some label → number ≡ label
 label_number number label is = elim (cases_eq number no_label) [
   | inl same ↦ none_some (label_of number) label (ap label_of same) is
-  | inr other ↦ same_Some number label (sym (ap (λ (b : Bool). if b then None else Some number) (ne_eqb number no_label other)) ∙ is)
+  | inr other ↦
+      let stored_as = ap (λ (b : Bool). if b then None else Some number) (ne_eqb number no_label other) in
+      same_Some number label (sym stored_as ∙ is)
 ]
 
 -- The labels of a meeting stay those of its nodes, whose levels stay too.

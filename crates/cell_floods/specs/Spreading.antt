@@ -1,5 +1,5 @@
--- The state of a flood whose nodes take turns by height. In its turn a node gets a level and a label,
--- or it waits until a node beside it has them.
+-- The state of a flood whose nodes take turns by height. In its turn a node gets a level and a
+-- label, or it waits until a node beside it has them.
 -- Private.
 use Rattle.std.specs.Prelude.{◌≡◌, ℕ, ◌+◌, ◌*◌, ◌<◌, ◌≤◌, ◌⊎◌, ℤ, ◌≤ℤ◌, leb, List, length, map, Option, None, Some, IsSome, slice_index_or, unwrap_or}
 use Rattle.std.specs.Int.{int_max}
@@ -35,9 +35,9 @@ abbrev pub HasWalkTo : Cells → ℕ → ℤ → ℕ → Type 0
 HasWalkTo n a level label = (walk : List Spill) × IsWalk (IsCellJoin n) (source_of n) a walk
     × (walk_crest (source_of n) a walk ≡ level) × (last_node a walk ≡ label)
 
--- A flood that has come to the level `now`. A labelled node has a level, at most `now`, and a walk of
--- that crest to its label. Any other node has its height as level. A source has its height as level
--- and, from its turn on, itself as label.
+-- A flood that has come to the level `now`. A labelled node has a level, at most `now`, and a walk
+-- of that crest to its label. Any other node has its height as level. A source has its height as
+-- level and, from its turn on, itself as label.
 pub record IsPart (now : ℤ) (n : Cells) (levels : List (Option ℤ)) (labels : List ℕ) : Type 0 where
   pub levels_size : length levels ≡ length n.cells
   pub labels_size : length labels ≡ length n.cells

@@ -27,7 +27,8 @@ returns-in_ok-push c =
     sym (s.part.rest to (omega (arith, c.requires.waits))) ∙ entry in
     spreads_label now to c.args.label x _ s (omega (arith, c.requires.waits))
     (walk_by now c.in-Some.height now n by.node to c.args.label
-    (walk_beside now c.args.label to x s by) by.beside cell (omega (arith, ints, clamps, c.if-height-number.true, c.number.ensures)))
+    (walk_beside now c.args.label to x s by) by.beside cell
+    (omega (arith, ints, clamps, c.if-height-number.true, c.number.ensures)))
     (omega (arith, by.labelled, by.label_is))
     (λ h is. absurd (no_source now n _ _ to s.part (omega (arith, c.requires.waits))
     (λ is. absurd (omega (arith, is, c.requires.waits))) h is))
