@@ -18,7 +18,7 @@ from typing import IO, Callable, Iterator, List, Optional, Sequence, Set, Tuple
 import numpy as np
 
 from .errors import Cancelled, DeviceError, MissingError, ReliefError
-from .grid_text import PIECE, TakeRows, Wanted, read_grids, write_grid
+from .grid_text import PIECE, TakeRows, Wanted, offset_of, read_grids, write_grid
 from .heights import Heights
 
 FAULT = re.compile(r"relief: (?:(\d+) )?(\S.*?)(?: (\d+))?")
@@ -109,8 +109,8 @@ class Program:
             on_rows: called on another thread with strips of the map, and their first rows, as soon as they are read.
             keeps: whether the map is kept; else what is returned has no rows.
         """
-        wanted = [Wanted(np.dtype(dtype), on_rows, keeps)]
         heights = Heights.of_units(units, np.ones(units.shape, bool) if valid is None else valid, 0)
+        wanted = [Wanted(np.dtype(dtype), on_rows, keeps, offset_of(heights) if words[0] == "fill" else 0)]
         return self.run_together(words, heights, wanted, subjects, sinks, on_progress, is_cancelled, by_percent)[0]
 
     def run_together(self, words: Sequence[str], heights: Heights, wanted: Sequence[Wanted],
