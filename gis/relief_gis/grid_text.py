@@ -264,8 +264,8 @@ def _shape(file: Source) -> Tuple[int, int]:
         raise InputError("relief wrote no map: set RELIEF to the path of the relief that makes maps") from None
 
 
-def _pieces(file: Source) -> Iterator[np.ndarray]:
-    """The bytes of a text in pieces of whole words, each behind AHEAD further bytes."""
+def _pieces(file: Source) -> Iterator[Optional[np.ndarray]]:
+    """The bytes of a text in pieces of whole words, each behind AHEAD further bytes; None where the file gave less."""
     rest = np.empty(0, np.uint8)
     while True:
         text = np.empty(AHEAD + rest.size + PIECE, np.uint8)
@@ -283,6 +283,9 @@ def _pieces(file: Source) -> Iterator[np.ndarray]:
             raise InputError(NO_NUMBERS)
         if end:
             yield text[:AHEAD + end]
+        if count < PIECE:
+            # Maybe all has come, and the end of the file is seen later.
+            yield None
     if rest.size:
         raise InputError("relief wrote a text that is cut off")
 
