@@ -44,13 +44,14 @@ def row_blocks(shape: Tuple[int, ...]) -> List[slice]:
     return [slice(first, min(first + step, rows)) for first in range(0, rows, step)]
 
 
-def in_order(work: Callable[[Item], Result], items: Iterable[Item]) -> Iterator[Result]:
-    """The results of a function for each item, in order; few of them wait at a time."""
+def in_order(work: Callable[[Item], Result], items: Iterable[Optional[Item]]) -> Iterator[Result]:
+    """The results of a function for each item, in order; few of them wait at a time, and none at a None among items."""
     waiting: Deque["Future[Result]"] = deque()
     with ThreadPoolExecutor(FEW_THREADS) as pool:
         for item in items:
-            waiting.append(pool.submit(work, item))
-            if len(waiting) > 2 * FEW_THREADS:
+            if item is not None:
+                waiting.append(pool.submit(work, item))
+            while len(waiting) > (0 if item is None else 2 * FEW_THREADS):
                 yield waiting.popleft().result()
         while waiting:
             yield waiting.popleft().result()

@@ -1,6 +1,7 @@
 """What lies downstream of where the data ends: land beyond may drain in there, and no map can show it."""
 from __future__ import annotations
 
+from concurrent.futures import ThreadPoolExecutor
 from fractions import Fraction
 from typing import Dict, Iterator, List, Sequence, Tuple
 
@@ -90,17 +91,27 @@ class GaugeCounts:
     """
 
     def __init__(self, gauges: Sequence[Place], valid: np.ndarray) -> None:
-        self.gauges, self.edges = gauges, edge_cells(valid)
-        for gauge in gauges:
-            # Where the data ends at the gauge itself, its water runs out and none runs in.
-            self.edges[gauge.row, gauge.col] = False
+        self.gauges = gauges
         self.counts = np.zeros((2, len(gauges) + 1), np.int64)
+        # They are found while the program reads.
+        pool = ThreadPoolExecutor(1)
+        self.edges = pool.submit(self._edges_of, valid)
+        pool.shutdown(wait=False)
+
+    def _edges_of(self, valid: np.ndarray) -> np.ndarray:
+        """Where the data ends, but for gauges: there its water runs out, and none runs in."""
+        edges = edge_cells(valid)
+        for gauge in self.gauges:
+            edges[gauge.row, gauge.col] = False
+        return edges
 
     def put(self, found: np.ndarray, row: int) -> None:
         """Counts cells of rows of the map, from a row on."""
+        edges = self.edges.result()
+
         def count(rows: slice) -> np.ndarray:
             numbers = np.maximum(found[rows], 0)
-            cut = numbers[self.edges[row + rows.start:row + rows.stop]]
+            cut = numbers[edges[row + rows.start:row + rows.stop]]
             return np.stack([np.bincount(it.ravel(), minlength=self.counts.shape[1]) for it in (numbers, cut)])
 
         self.counts += sum(for_rows(count, found.shape))

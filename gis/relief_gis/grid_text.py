@@ -1,18 +1,20 @@
 """The grid text that `relief` reads and writes, from and to numpy arrays.
 
 Heights are written as whole numbers of units, so the program runs with its scale of 0 and no decimal point is
-written or read. All is computed for the cells of a block at once.
+written or read. All is computed for the cells of a block at once. To heights `offset_of` is added: words of one length
+are parsed in 8 ns a cell, those of all lengths in 22.
 """
 from __future__ import annotations
 
 from dataclasses import dataclass
-from typing import IO, Any, Callable, Iterator, List, Optional, Sequence, Tuple
+from functools import partial
+from typing import IO, Any, Callable, Iterable, Iterator, List, Optional, Sequence, Tuple
 
 import numpy as np
 
 from .blocks import Behind, in_order, row_blocks
 from .errors import InputError
-from .heights import Heights
+from .heights import MOST_NARROW, Heights
 
 HEADER_LINES = 6
 ZERO, NINE, MINUS, SPACE, LINE_FEED = b"09- \n"
@@ -62,26 +64,39 @@ THREE_DIGITS = _table(1_000, b"", b" ")
 SIGNED_DIGITS = np.concatenate([_table(1_000, sign, b"") for sign in (b"0", b"-")])
 
 
+def offset_of(heights: Heights) -> int:
+    """What is added to heights in a text, so that all have as many digits and none a sign; 0: they lie too far apart.
+
+    The program compares heights, and does not tell them from others that are all higher by as much.
+    """
+    low, high = heights.ends
+    # One more number stands for no data.
+    first = next((10**more for more in range(DIGITS) if high + 1 - low < 9 * 10**more), None)
+    return 0 if first is None else first - low
+
+
 def write_grid(heights: Heights, file: Target) -> None:
-    """Writes heights as a grid text, with cells of size 1 at the origin.
+    """Writes heights, to which `offset_of` is added, as a grid text, with cells of size 1 at the origin.
 
     Args:
         file: a binary file, open for writing.
     """
     rows, cols = heights.shape
-    low, high = heights.ends
+    offset = offset_of(heights)
+    low, high = (end + offset for end in heights.ends)
     nodata = high + 1
     file.write(f"ncols {cols}\nnrows {rows}\nxllcorner 0\nyllcorner 0\ncellsize 1\nNODATA_value {nodata}\n".encode())
     digits = len(str(max(abs(low), abs(nodata))))
     is_signed = low < 0
     table = _table_of(low, nodata, digits, is_signed) if nodata - low < min(MOST_TABLE, rows * cols) else None
+    # What is added to units: for the place of a word in a table, or for the word.
+    added = heights.dtype.type(offset if table is None else offset - low)
 
     def text_of(block: slice) -> np.ndarray:
         units, valid = heights.rows(block), heights.valid[block]
-        known = units if valid.all() else np.where(valid, units, heights.dtype.type(nodata))
-        if table is None:
-            return _words(known, digits, is_signed)
-        return _lines(table.take(known - heights.dtype.type(low), mode="clip"))
+        known = units if valid.all() else np.where(valid, units, heights.dtype.type(nodata - offset))
+        known = known + added
+        return _words(known, digits, is_signed) if table is None else _lines(table.take(known, mode="clip"))
 
     for text in in_order(text_of, row_blocks(heights.shape)):
         file.write(text.data)
@@ -127,7 +142,7 @@ def _words(units: np.ndarray, digits: int, is_signed: bool) -> np.ndarray:
 
 
 def read_grid(file: Source, dtype: "np.typing.DTypeLike" = np.int64, wanted: Optional[Tuple[int, ...]] = None,
-              on_rows: Optional[TakeRows] = None, keeps: bool = True) -> np.ndarray:
+              on_rows: Optional[TakeRows] = None, keeps: bool = True, offset: int = 0) -> np.ndarray:
     """Reads the numbers of a grid text that `relief` wrote with a scale of 0.
 
     Args:
@@ -136,6 +151,7 @@ def read_grid(file: Source, dtype: "np.typing.DTypeLike" = np.int64, wanted: Opt
         wanted: the rows and columns that the grid has to have.
         on_rows: called in another thread with strips of STRIP rows, and the row of the first one, as they are read.
         keeps: whether the grid is kept.
+        offset: what is taken from each number, so that the type has the rest.
 
     Returns:
         (rows, cols) of that type, with the NODATA value of the text where there is no data; no rows if it is not kept.
@@ -147,22 +163,23 @@ def read_grid(file: Source, dtype: "np.typing.DTypeLike" = np.int64, wanted: Opt
     if wanted is not None and shape != wanted:
         raise InputError(f"relief wrote {shape} rows and columns of {wanted}")
     whole = np.empty((rows if keeps else 0, cols), dtype)
+    parts = in_order(partial(_numbers, offset=offset), _pieces(file))
     if on_rows is None:
-        count = _put_numbers(file, rows, cols, whole if keeps else None, dtype, None)
+        count = _put_numbers(parts, rows, cols, whole if keeps else None, dtype, None)
     else:
         # The next strip is read meanwhile.
         with Behind(on_rows) as put:
-            count = _put_numbers(file, rows, cols, whole if keeps else None, dtype, put)
+            count = _put_numbers(parts, rows, cols, whole if keeps else None, dtype, put)
     if count != rows * cols:
         raise InputError(f"relief wrote {count} values of {rows * cols}")
     return whole
 
 
-def _put_numbers(file: Source, rows: int, cols: int, whole: Optional[np.ndarray], dtype: "np.typing.DTypeLike",
-                 on_rows: Optional[TakeRows]) -> int:
+def _put_numbers(parts: Iterable[np.ndarray], rows: int, cols: int, whole: Optional[np.ndarray],
+                 dtype: "np.typing.DTypeLike", on_rows: Optional[TakeRows]) -> int:
     """Puts the numbers of a text into a grid, if there is one, and gives its strips on; how many there are."""
     strip, filled, count = np.empty((0, cols), dtype), 0, 0
-    for part in in_order(_numbers, _pieces(file)):
+    for part in parts:
         count += part.size
         while part.size and filled < rows * cols:
             first = filled // (STRIP * cols) * STRIP
@@ -185,6 +202,7 @@ class Wanted:
     dtype: np.dtype
     on_rows: Optional[TakeRows] = None
     keeps: bool = True
+    offset: int = 0
 
 
 def read_grids(file: Source, wanted: Sequence[Wanted], shape: Tuple[int, ...]) -> List[np.ndarray]:
@@ -194,13 +212,17 @@ def read_grids(file: Source, wanted: Sequence[Wanted], shape: Tuple[int, ...]) -
         InputError: one is cut off, no grid text or that of another grid, or there are more.
     """
     if len(wanted) == 1:
-        return [read_grid(file, wanted[0].dtype, shape, wanted[0].on_rows, wanted[0].keeps)]
+        return [_read_wanted(file, wanted[0], shape)]
     stream = _Texts(file)
     # A grid ends where a word of the next one's header begins.
-    found = [read_grid(stream, it.dtype, shape, it.on_rows, it.keeps) for it in wanted]
+    found = [_read_wanted(stream, it, shape) for it in wanted]
     if stream.rest:
         raise InputError(f"relief wrote more than {len(wanted)} maps")
     return found
+
+
+def _read_wanted(file: Source, wanted: Wanted, shape: Tuple[int, ...]) -> np.ndarray:
+    return read_grid(file, wanted.dtype, shape, wanted.on_rows, wanted.keeps, wanted.offset)
 
 
 class _Texts:
@@ -242,8 +264,8 @@ def _shape(file: Source) -> Tuple[int, int]:
         raise InputError("relief wrote no map: set RELIEF to the path of the relief that makes maps") from None
 
 
-def _pieces(file: Source) -> Iterator[np.ndarray]:
-    """The bytes of a text in pieces of whole words, each behind AHEAD further bytes."""
+def _pieces(file: Source) -> Iterator[Optional[np.ndarray]]:
+    """The bytes of a text in pieces of whole words, each behind AHEAD further bytes; None where the file gave less."""
     rest = np.empty(0, np.uint8)
     while True:
         text = np.empty(AHEAD + rest.size + PIECE, np.uint8)
@@ -261,12 +283,40 @@ def _pieces(file: Source) -> Iterator[np.ndarray]:
             raise InputError(NO_NUMBERS)
         if end:
             yield text[:AHEAD + end]
+        if count < PIECE:
+            # Maybe all has come, and the end of the file is seen later.
+            yield None
     if rest.size:
         raise InputError("relief wrote a text that is cut off")
 
 
-def _numbers(text: np.ndarray) -> np.ndarray:
-    """The numbers of words, each of which a space or a line feed ends, behind AHEAD further bytes."""
+def _numbers(text: np.ndarray, offset: int) -> np.ndarray:
+    """The numbers, less an offset, of words, each of which a space or a line feed ends, behind AHEAD further bytes."""
+    width = _common_width(text[AHEAD:])
+    if width:
+        # The eight bytes that end with each word.
+        found = np.ndarray((text.size - AHEAD) // width, "<u8", text, width, (width,))
+        numbers = _numbers_of(found & DIGIT_BITS[width])
+    else:
+        numbers = _numbers_of_all_lengths(text)
+    if offset:
+        numbers = numbers if abs(offset) < MOST_NARROW else numbers.astype(np.int64)
+        numbers -= numbers.dtype.type(offset)
+    return numbers
+
+
+def _common_width(words: np.ndarray) -> int:
+    """How many bytes each of some numbers has, with the one that ends it, if all have as many; else 0."""
+    first = np.flatnonzero(words[:DIGITS + 1] <= SPACE)
+    width = int(first[0]) + 1 if first.size else 0
+    if width < 2 or words.size % width or words[width - 1::width].max() > SPACE:
+        return 0
+    is_even = np.count_nonzero(words < ZERO) == words.size // width and words.max() <= NINE
+    return width if is_even else 0
+
+
+def _numbers_of_all_lengths(text: np.ndarray) -> np.ndarray:
+    """The numbers of words with or without a sign, as those of `_numbers`."""
     text[AHEAD - 1] = SPACE
     # The place before the first word, and those behind all words.
     places = np.flatnonzero(text[AHEAD - 1:] <= SPACE)
@@ -304,6 +354,11 @@ def _last_digits(text: np.ndarray, ends: np.ndarray, steps: np.ndarray) -> np.nd
     # The eight bytes that end with each place.
     found = np.ndarray(text.size - DIGITS, "<u8", text, 0, (1,))[ends]
     found &= DIGIT_BITS.take(steps, mode="clip")
+    return _numbers_of(found)
+
+
+def _numbers_of(found: np.ndarray) -> np.ndarray:
+    """The numbers of DIGITS digits, each in a byte of its own, and a byte 0: machine's words, which are changed."""
     found *= PAIRS
     found &= PAIR_BITS
     found *= FOURS

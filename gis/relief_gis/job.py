@@ -11,7 +11,6 @@ import numpy as np
 
 from . import edges
 from .ahead import Ahead
-from .around import raster_around
 from .curvature import REFRACTION
 from .errors import Cancelled, UsageError
 from .frame import Bounds, Window
@@ -156,6 +155,8 @@ def run_all(jobs: Sequence[Job], program: Program, caller: Caller) -> None:
         if is_by_parts(job, raster):
             return run_by_parts(job, raster, program, caller)
     if job.around is not None:
+        from .around import raster_around
+
         raster = raster_around(job, raster, job.around, program, caller)
     terrain = raster.read(cure="" if job.map in SIGHT else "have that of one place read by --around X,Y, ")
     for it in jobs:

@@ -8,7 +8,7 @@ from typing import Callable, List, Optional, Sequence, Tuple
 import numpy as np
 
 from .blocks import array_of, row_blocks
-from .grid_text import STRIP, TakeRows, Wanted
+from .grid_text import STRIP, TakeRows, Wanted, offset_of
 from .heights import Heights
 from .program import Program, Question, Report
 from .units import MOST_RADIUS_CELLS
@@ -195,7 +195,8 @@ def make_together(request: Request, heights: Heights, program: Program, uses: Se
     names, sinks = ([place.name for place in places] for places in (request.places, request.sinks))
     codes = [_Codes(heights.valid, use.on_rows) if use.map == "flow" and use.keeps else None for use in uses]
     wanted = [Wanted(heights.dtype if use.map == "fill" else np.dtype(np.int32),
-                     use.on_rows if kept is None else kept.put, use.keeps and kept is None)
+                     use.on_rows if kept is None else kept.put, use.keeps and kept is None,
+                     offset_of(heights) if use.map == "fill" else 0)
               for use, kept in zip(uses, codes)]
     found = program.run_together(request.words(), heights, wanted, names, sinks, on_progress, is_cancelled, by_percent)
     return [array if kept is None else kept.kept for array, kept in zip(found, codes)]

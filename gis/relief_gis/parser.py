@@ -10,10 +10,8 @@ from . import __version__
 from .arguments import MOST_WORKERS
 from .console import NAME, say_if_heard, write
 from .curvature import REFRACTION
-from .differences import COMPARED
 from .edges import UNCERTAIN_MAPS
 from .errors import UsageError
-from .foreign import CODES
 from .job import VOIDS, bounds_of
 from .making import SIGHT
 from .units import AREAS, MOST_DECIMALS, Measure, decimal_of, measure_of
@@ -80,7 +78,13 @@ def new_parser(words: Collection[str] = ()) -> argparse.ArgumentParser:
     parser = _Parser(NAME, description="Drainage and visibility maps from raster to GeoTIFF, made by relief.",
                      epilog=EPILOG, formatter_class=argparse.RawDescriptionHelpFormatter)
     parser.add_argument("--version", action="version", version=f"{NAME} {__version__}")
-    maps = parser.add_subparsers(dest="map", metavar="MAP", required=True, parser_class=_Parser)
+    # A parser takes a millisecond: one stands for those of all maps that are not asked for.
+    unused = _Parser(NAME)
+
+    def parser_of(prog: str, **more: Any) -> _Parser:
+        return _Parser(prog=prog, **more) if not words or prog.split()[-1] in words else unused
+
+    maps = parser.add_subparsers(dest="map", metavar="MAP", required=True, parser_class=parser_of)
     for name, about in ABOUT.items():
         one = maps.add_parser(name, help=about, description=f"Writes {about}.", epilog=EPILOG,
                               formatter_class=argparse.RawDescriptionHelpFormatter)
@@ -217,6 +221,10 @@ def _add_observers(parser: argparse.ArgumentParser, named: str = "--each") -> No
 
 
 def _add_comparison(parser: argparse.ArgumentParser) -> None:
+    # Other runs have no need of these modules.
+    from .differences import COMPARED
+    from .foreign import CODES
+
     add = parser.add_argument
     add("source", metavar="IN", help="raster of heights")
     add("other", metavar="OTHER", help="the other program's map of the same cells")

@@ -7,6 +7,7 @@ import functools
 import os
 import queue
 import re
+import select
 import shutil
 import subprocess
 import threading
@@ -18,7 +19,7 @@ from typing import IO, Callable, Iterator, List, Optional, Sequence, Set, Tuple
 import numpy as np
 
 from .errors import Cancelled, DeviceError, MissingError, ReliefError
-from .grid_text import PIECE, TakeRows, Wanted, read_grids, write_grid
+from .grid_text import PIECE, TakeRows, Wanted, offset_of, read_grids, write_grid
 from .heights import Heights
 
 FAULT = re.compile(r"relief: (?:(\d+) )?(\S.*?)(?: (\d+))?")
@@ -35,6 +36,8 @@ PIPE_BYTES, LEAST_PIPE_BYTES = 1 << 20, 1 << 16
 F_SETPIPE_SZ = 1031
 # Of a program that is as fast as this, less than a pipe goes through it while it is left alone.
 BYTES_A_SECOND = 2 << 30
+# After so many milliseconds without a byte those that came are used.
+SILENCE = 3
 VARIABLE = "RELIEF"
 
 
@@ -109,8 +112,8 @@ class Program:
             on_rows: called on another thread with strips of the map, and their first rows, as soon as they are read.
             keeps: whether the map is kept; else what is returned has no rows.
         """
-        wanted = [Wanted(np.dtype(dtype), on_rows, keeps)]
         heights = Heights.of_units(units, np.ones(units.shape, bool) if valid is None else valid, 0)
+        wanted = [Wanted(np.dtype(dtype), on_rows, keeps, offset_of(heights) if words[0] == "fill" else 0)]
         return self.run_together(words, heights, wanted, subjects, sinks, on_progress, is_cancelled, by_percent)[0]
 
     def run_together(self, words: Sequence[str], heights: Heights, wanted: Sequence[Wanted],
@@ -196,6 +199,8 @@ class _Pipe:
         with contextlib.suppress(OSError):
             size = fcntl.fcntl(file, F_SETPIPE_SZ, PIPE_BYTES)
         self._pause = size / BYTES_A_SECOND
+        self._poll = select.poll()
+        self._poll.register(file, select.POLLIN)
         if file.writable():
             os.set_blocking(file.fileno(), False)
 
@@ -213,13 +218,16 @@ class _Pipe:
         return self._file.readline(most)
 
     def readinto(self, piece: memoryview) -> int:
-        """Fills a piece; how many bytes it has, fewer at the end alone."""
+        """Fills a piece; how many bytes it has, fewer where no more come for a while, and none at the end."""
         filled = 0
         while count := self._file.readinto1(piece[filled:]):
             filled += count
             if filled == len(piece):
                 break
             time.sleep(self._pause)
+            # A program that ends frees its memory before its pipes are closed.
+            if not self._poll.poll(SILENCE):
+                break
         return filled
 
 

@@ -11,7 +11,7 @@ import numpy as np
 from fixtures import RELIEF, hills
 from relief_gis.errors import InputError
 from relief_gis import grid_text
-from relief_gis.grid_text import HEADER_LINES, Wanted, read_grid, read_grids, write_grid
+from relief_gis.grid_text import DIGITS, HEADER_LINES, Wanted, offset_of, read_grid, read_grids, write_grid
 from relief_gis.heights import Heights
 
 HEADER = "ncols {1}\nnrows {0}\nxllcorner 0\nyllcorner 0\ncellsize 1\nNODATA_value -9999\n"
@@ -26,11 +26,12 @@ def of_units(units, valid=None):
 
 
 def written(units, valid=None):
-    """The words of the text of an array: those of the header's values, and those of the cells."""
-    file = io.BytesIO()
-    write_grid(of_units(units, valid), file)
+    """Of the text of an array the words of its header's values, and the numbers of NODATA and of the cells in units."""
+    file, heights = io.BytesIO(), of_units(units, valid)
+    write_grid(heights, file)
     words = file.getvalue().decode().split()
-    return words[1:2 * HEADER_LINES:2], words[2 * HEADER_LINES:]
+    numbers = [int(word) - offset_of(heights) for word in words[2 * HEADER_LINES - 1:]]
+    return words[1:2 * HEADER_LINES:2], numbers[0], numbers[1:]
 
 
 def plain_text(numbers):
@@ -52,27 +53,41 @@ class Writing(unittest.TestCase):
         for shape in SHAPES:
             for digits in range(1, 16):
                 units = random_units(random, shape, digits)
-                header, words = written(units)
-                self.assertEqual([int(word) for word in words], units.ravel().tolist())
+                header, _, numbers = written(units)
+                self.assertEqual(numbers, units.ravel().tolist())
                 self.assertEqual(header[:2], [str(shape[1]), str(shape[0])])
-                self.assertLessEqual(max(map(len, words)), 64)
 
     def test_ends_of_lengths(self):
         for digits in range(16):
             for sign in (1, -1):
                 for off in (-1, 0, 1):
                     units = np.array([[sign * min(10**digits + off, MOST)]])
-                    self.assertEqual([int(word) for word in written(units)[1]], units.ravel().tolist())
+                    self.assertEqual(written(units)[2], units.ravel().tolist())
 
     def test_cells_without_data(self):
         random = np.random.default_rng(6)
         for shape in SHAPES:
             for dtype, digits in ((np.int32, 8), (np.int64, 15)):
                 units, valid = random_units(random, shape, digits).astype(dtype), random.random(shape) < 0.7
-                header, words = written(units, valid)
-                expected = [int(unit) if known else int(header[5]) for unit, known in zip(units.flat, valid.flat)]
-                self.assertEqual([int(word) for word in words], expected)
-                self.assertNotIn(int(header[5]), units[valid].tolist())
+                _, nodata, numbers = written(units, valid)
+                expected = [int(unit) if known else nodata for unit, known in zip(units.flat, valid.flat)]
+                self.assertEqual(numbers, expected)
+                self.assertNotIn(nodata, units[valid].tolist())
+
+    def test_words_of_one_length(self):
+        for low in (-MOST, -10**6, -5, 0, 1, 10**6, MOST - 10**9):
+            for digits in range(1, DIGITS + 1):
+                # There are as many numbers of so many digits, of which one stands for no data.
+                most = low + 9 * 10**(digits - 1) - 2
+                for high, expected in ((most, digits), (most + 1, digits + 1)):
+                    heights, file = of_units(np.array([[low, high]])), io.BytesIO()
+                    write_grid(heights, file)
+                    words = file.getvalue().split()[2 * HEADER_LINES - 1:]
+                    with self.subTest(low=low, high=high):
+                        if expected > DIGITS:
+                            self.assertEqual(offset_of(heights), 0)
+                        else:
+                            self.assertEqual({len(str(int(word))) for word in words}, {expected})
 
     def test_the_program_reads_it(self):
         random = np.random.default_rng(7)
@@ -82,10 +97,10 @@ class Writing(unittest.TestCase):
                 write_grid(of_units(units, valid), text)
                 text.seek(0)
                 done = subprocess.run([RELIEF, "fill"], stdin=text, capture_output=True, check=True)
-            header, words = written(units, valid)
+            offset = offset_of(of_units(units, valid))
             # Each word of it is a height of the grid or NODATA.
-            found = np.array([int(word) for word in done.stdout.split()[2 * HEADER_LINES:]]).reshape(50, 60)
-            np.testing.assert_array_equal(found == int(header[5]), ~valid)
+            found = np.array([int(word) for word in done.stdout.split()[2 * HEADER_LINES:]]).reshape(50, 60) - offset
+            np.testing.assert_array_equal(found == written(units, valid)[1], ~valid)
             self.assertTrue(np.all(found[valid] >= units[valid]))
             self.assertLessEqual(set(found[valid].tolist()), set(units[valid].tolist()))
 
@@ -100,6 +115,30 @@ class Reading(unittest.TestCase):
                 found = read_grid(io.BytesIO(plain_text(numbers)))
                 np.testing.assert_array_equal(found, numbers)
                 self.assertEqual(found.dtype, np.int64)
+
+    def test_numbers_of_one_length(self):
+        random = np.random.default_rng(13)
+        for shape in SHAPES:
+            for digits in range(1, 11):
+                numbers = random.integers(10**(digits - 1), 10**digits, shape)
+                text = plain_text(numbers)
+                for offset in (0, 1, -10**15, 2**31, 2**30, -2**30 - 7):
+                    with self.subTest(shape=shape, digits=digits, offset=offset):
+                        found = read_grid(io.BytesIO(text), np.int64, shape, offset=offset)
+                        np.testing.assert_array_equal(found, numbers - offset)
+
+    def test_words_of_one_length_among_others(self):
+        text = plain_text(np.full((3, 4), 12345))
+        for old, new in ((b" 12345 ", b" 12x45 "), (b" 12345 ", b" 12/45 "), (b" 12345 ", b" 12:45 "),
+                         (b"45 12", b"45x12"), (b"45 12", b"45112"), (b"45 12", b"4 512 ")):
+            with self.subTest(new=new):
+                self.assertRaises(InputError, read_grid, io.BytesIO(text.replace(old, new, 1)))
+        # Two words that are as long as two others.
+        for new in (b" 1234 123456 ", b" 123456 1234 ", b" -2345 12345 "):
+            with self.subTest(new=new):
+                expected = [12345, *map(int, new.split()), *[12345] * 9]
+                found = read_grid(io.BytesIO(text.replace(b" 12345 12345 ", new, 1)))
+                self.assertEqual(found.ravel().tolist(), expected)
 
     def test_a_narrow_type(self):
         numbers = np.random.default_rng(9).integers(-9999, 2**30, (300, 400))

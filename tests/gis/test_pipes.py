@@ -70,6 +70,13 @@ class Pipes(Case):
         found = self.run_stand_in(f"tail -n +7 > {rest}; printf '{HEADER}'; cat {rest}", dtype=np.int32)
         np.testing.assert_array_equal(found.ravel(), np.arange(SIDE * SIDE))
 
+    def test_rows_are_given_on_before_the_program_ends(self):
+        rest, last = self.folder / "rest", []
+        self.run_stand_in(f"tail -n +7 > {rest}; printf '{HEADER}'; cat {rest}; sleep 3", dtype=np.int32,
+                          on_rows=lambda rows, row: last.append((row + len(rows), time.monotonic())))
+        self.assertEqual(last[-1][0], SIDE)
+        self.assertGreater(time.monotonic() - last[-1][1], 1)
+
 
 class Memory(Case):
     """The most memory of a run for each cell."""

@@ -59,8 +59,9 @@ class Text(unittest.TestCase):
     def test_rows_and_nodata(self):
         words = self.text([[-5, 120], [7, 0]], [[True, True], [False, True]]).split()
         self.assertEqual(words[:12:2], ["ncols", "nrows", "xllcorner", "yllcorner", "cellsize", "NODATA_value"])
-        self.assertEqual([int(word) for word in words[1:12:2]], [2, 2, 0, 0, 1, 121])
-        self.assertEqual([int(word) for word in words[12:]], [-5, 120, 121, 0])
+        # -5 became 100.
+        self.assertEqual([int(word) for word in words[1:12:2]], [2, 2, 0, 0, 1, 226])
+        self.assertEqual([int(word) for word in words[12:]], [100, 225, 226, 105])
 
     def test_numbers_of_all_lengths(self):
         numbers = [[sign * 10**digits + more for digits in range(16) for more in (-1, 0)] for sign in (1, -1)]
