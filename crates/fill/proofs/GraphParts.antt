@@ -18,48 +18,38 @@ use Rattle.floods.proofs.Heaps.{all_by_contains}
 up : (joins : List Join) → AreRising joins → (m n : ℕ) (d : Join) → m ≤ n → n < length joins →
     (get_or joins m d).from ≤ (get_or joins n d).from
 up joins rise m n d low below = elim (cases_eq m n) [
-  | inl same ↦ let e = ap (λ k. (get_or joins k d).from) same in omega (arith, e)
+  | inl same ↦ let e = ap (λ k. (get_or joins k d).from) same in omega arith
   | inr other ↦
-      first_up (get_or joins m d) (get_or joins n d) (rise m n d (omega (arith, low, other)) below)
+      first_up (get_or joins m d) (get_or joins n d) (rise m n d (omega arith) below)
 ] where
   first_up : (x y : Join) → IsBefore x y → x.from ≤ y.from
   first_up x y (inl a) = omega arith
-  first_up x y (inr a) = omega (arith, a.0)
+  first_up x y (inr a) = omega arith
 
 -- If the join at `middle` begins before the node, so do all joins before it.
 pub below_more : (joins : List Join) (node middle : ℕ) (e : Join) → AreRising joins →
     middle < length joins → (get_or joins middle e).from < node → (k : ℕ) (d : Join) →
     k < middle + 1 → (get_or joins k d).from < node
 below_more joins node middle e rise inside low k d below =
-    let same = ap (λ (j : Join). j.from) (get_or_default joins middle d e inside) in
-    omega (arith, up joins rise k middle d (omega (arith, below)) inside, same, low)
+    omega (arith, up joins rise k middle d (omega (arith, below)) inside, ap (λ j. j.from) (get_or_default joins middle d e inside), low)
 
 pub above_more : (joins : List Join) (node middle : ℕ) (e : Join) → AreRising joins →
     middle < length joins → node ≤ (get_or joins middle e).from → (k : ℕ) (d : Join) → middle ≤ k →
     k < length joins → node ≤ (get_or joins k d).from
 above_more joins node middle e rise inside high k d above below =
-    let same = ap (λ (j : Join). j.from) (get_or_default joins middle d e inside) in
-    omega (arith, up joins rise middle k d above below, same, high)
+    omega (arith, up joins rise middle k d above below, ap (λ j. j.from) (get_or_default joins middle d e inside), high)
 
 -- If a join begins past the node, so do all joins after it.
-pub past_node : (joins : List Join) (node end : ℕ) (e : Join) → AreRising joins →
-    end < length joins → node ≤ (get_or joins end e).from → (get_or joins end e).from ≢ node →
-    (k : ℕ) (d : Join) → end ≤ k → k < length joins → node < (get_or joins k d).from
-past_node joins node end e rise inside low differ k d above below =
+pub past_node : (joins : List Join) {node : ℕ} (end : ℕ) (e : Join) → AreRising joins → end < length joins → node ≤ (get_or joins end e).from → (get_or joins end e).from ≢ node → (k : ℕ) (d : Join) → end ≤ k → k < length joins → node < (get_or joins k d).from
+past_node joins {node} end e rise inside low differ k d above below =
     let far =
-    above_more joins (node + 1) end e rise inside (omega (arith, low, differ)) k d above below in
-    omega (arith, far)
+    above_more joins (node + 1) end e rise inside (omega arith) k d above below in
+    omega arith
 
 -- If the joins from index `start` on and before `end` are those from a node, their arcs are just
 -- the node's arcs in the graph.
-pub just_node : (g : Graph) (joins : List Join) (node start end : ℕ) → IsGraph g → joins ≡ g.joins →
-    start ≤ end → end ≤ length joins
-    → ((k : ℕ) (d : Join) → k < start → (get_or joins k d).from < node) →
-    ((k : ℕ) (d : Join) → start ≤ k → k < length joins → node ≤ (get_or joins k d).from)
-    → ((k : ℕ) (d : Join) → k < end → (get_or joins k d).from ≤ node) →
-    ((k : ℕ) (d : Join) → end ≤ k → k < length joins → node < (get_or joins k d).from)
-    → HasJust (HasJoin g node) (map arc_of (take (end - start) (drop start joins)))
-just_node g joins node start end is same order inside before from upto after = record {
+pub just_node : {g : Graph} (joins : List Join) (node start end : ℕ) → IsGraph g → joins ≡ g.joins → start ≤ end → end ≤ length joins → ((k : ℕ) (d : Join) → k < start → (get_or joins k d).from < node) → ((k : ℕ) (d : Join) → start ≤ k → k < length joins → node ≤ (get_or joins k d).from) → ((k : ℕ) (d : Join) → k < end → (get_or joins k d).from ≤ node) → ((k : ℕ) (d : Join) → end ≤ k → k < length joins → node < (get_or joins k d).from) → HasJust (HasJoin g node) (map arc_of (take (end - start) (drop start joins)))
+just_node {g} joins node start end is same order inside before from upto after = record {
   only = all_by_contains (λ arc. HasJoin g node arc.to arc.height) arcs (λ arc h.
       let k = h.0 in
       let low : k < end - start = omega (arith, h.1, count) in

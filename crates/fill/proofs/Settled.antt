@@ -27,7 +27,7 @@ use Rattle.fill.specs.Held.{AreAsRead, IsHeld}
 pub around_below : (cols i count : ℕ) → cols < i → i + cols + 1 < count → (way : ℕ) → way < 8 →
     get_or (around_index cols i) way 0 < count
 around_below cols i count above below =
-    eight (λ way. get_or (around_index cols i) way 0 < count)
+    eight _
     (omega (arith, below)) (omega (arith, below)) (omega (arith, below)) (omega (arith, below))
     (omega (arith, below)) (omega (arith, below)) (omega (arith, below)) (omega (arith, below))
 
@@ -73,10 +73,10 @@ module _ (t : Terrain) (levels : List (Option ℤ))
       IsFilled t levels
   settled_filled size none = record {
     size = size;
-    each = λ p inside. match_of (height_at t p) _ _ (λ lacks. none p inside lacks) (λ h some.
+    each = λ p inside. match_of _ _ _ (none p inside) (λ h some.
         let x = each p (ap is_some some) in
         let least_of : (rest : List Place) → IsPath t p rest → x.0 ≤ℤ crest t p rest =
-        λ rest path. least rest p x.0 x.1.entry path in (
+        λ rest path. least rest p _ x.1.entry path in (
           x.0,
           x.1.entry,
           record {
@@ -100,23 +100,20 @@ module _ (t : Terrain) (levels : List (Option ℤ)) (size : length levels ≡ t.
       × ((level : ℤ) → entry_at t.cols t.rows levels p ≡ Some level → level ≤ℤ near)
   near_value p q inside held touches differ =
       let i = index_of t.cols p in
-      let col : i % t.cols ≡ p.col = mod-mul-add p.row t.cols p.col inside.1 in
-      let row : i / t.cols ≡ p.row = div-mul-add p.row t.cols p.col inside.1 in
-      let above : 1 ≤ p.row = some_row held.after in
+      let col = mod-mul-add p.row t.cols p.col inside.1 in
+      let row = div-mul-add p.row t.cols p.col inside.1 in
       let below : p.row + 1 < t.rows = last_row held.before in
       let way = way_to p q touches differ in
-      let at = on_ways 0 0 t.cols i p (p.row - 1) (p.col - 1) (omega (arith, above))
+      let at = on_ways 0 0 t.cols i p (p.row - 1) (p.col - 1) (omega (arith, some_row held.after))
       (omega (arith, held.left, col)) (omega arith) (omega arith) (simp unary_clauses refl) way.0 way.1 in
       let same = same_Some at.0 q (sym at.1.on ∙ way.2) in
-      let index : index_of t.cols q ≡ get_or (around_index t.cols i) way.0 0 =
-      ap (index_of t.cols) (sym same) ∙ sym (from_zero t.cols at.0) ∙ at.1.index in
       let q_inside : IsInside t q =
       (omega (arith, touches.row_down, below), omega (arith, touches.col_right, held.right, col)) in
       let near = held.around.around way.0 way.1 in (
         near.0,
         q_inside,
         entry-inside t.cols t.rows levels q q_inside.0 q_inside.1
-            ∙ ap (λ n. get_or levels n None) index ∙ near.1,
+            ∙ ap (λ n. get_or levels n None) (ap (index_of t.cols) (sym same) ∙ sym (from_zero t.cols at.0) ∙ at.1.index) ∙ near.1,
         λ level is. subst (λ z. z ≤ℤ near.0) (same_Some held.around.level level
             (sym held.around.is ∙ sym (entry-inside t.cols t.rows levels p inside.0 inside.1) ∙ is)) near.2,
       )
@@ -126,7 +123,6 @@ module _ (t : Terrain) (levels : List (Option ℤ)) (size : length levels ≡ t.
         positive : (row col : ℕ) → col < t.cols → t.cols ≤ row * t.cols + col → 1 ≤ row
         positive zero col few after = absurd (omega (arith, few, after))
         positive (suc row) col few after = omega arith
-
       last_row : index_of t.cols p + t.cols < length levels → p.row + 1 < t.rows
       last_row before = below (p.row + 1) t.rows (omega (arith, before, size)) where
         below : (n m : ℕ) → n * t.cols < t.cols * m → n < m
@@ -141,15 +137,13 @@ module _ (t : Terrain) (levels : List (Option ℤ)) (size : length levels ≡ t.
     low = low;
     held = elim way [
       | inr as_read ↦ inl (own as_read)
-      | inl held ↦ elim (cases_Bool (int_eq (height_of t p) level)) [
-        | inl same ↦ inl ((Decides-int_eq (height_of t p) level).0 same)
+      | inl held ↦ elim (cases_Bool _) [
+        | inl same ↦ inl ((Decides-int_eq _ level).0 same)
         | inr other ↦ inr (record {
           inner = λ end. elim end [
             | inl edge ↦ inner held edge.1
             | inr sink ↦
-                let equal : int_eq (height_of t p) level ≡ true =
-                (Decides-int_eq (height_of t p) level).1 (own (All-contains IsAsRead t.sinks p sinks sink.1)) in
-                absurd (false≢true (sym other ∙ equal))
+                absurd (false≢true (sym other ∙ (Decides-int_eq _ level).1 (own (All-contains IsAsRead _ p sinks sink.1))))
           ];
           around = λ q next.
               let near = near_value p q inside held next.touches next.different in
@@ -160,25 +154,22 @@ module _ (t : Terrain) (levels : List (Option ℤ)) (size : length levels ≡ t.
   } where
     IsAsRead : Place → Type 0
     IsAsRead r = get_or levels (index_of t.cols r) None ≡ get_or t.cells (index_of t.cols r) None
-
     inside : IsInside t p
-    inside = inside_from_entry t.cols t.rows levels p level is
-
+    inside = inside_from_entry _ _ levels p level is
     own : get_or levels (index_of t.cols p) None ≡ get_or t.cells (index_of t.cols p) None →
         height_of t p ≡ level
-    own as_read = height_is t p level (entry-inside t.cols t.rows t.cells p inside.0 inside.1
-        ∙ sym as_read ∙ sym (entry-inside t.cols t.rows levels p inside.0 inside.1) ∙ is)
-
+    own as_read = height_is t p level (entry-inside _ _ _ p inside.0 inside.1
+        ∙ sym as_read ∙ sym (entry-inside _ _ levels p inside.0 inside.1) ∙ is)
     inner : IsHeld t.cols levels (index_of t.cols p) → HasGapAround t p → ⊥
     inner held (inl row) = omega (arith, held.after, row, inside, ap (λ n. n * t.cols) row)
     inner held (inr (inl col)) =
-        omega (arith, held.left, mod-mul-add p.row t.cols p.col inside.1, col)
+        omega (arith, held.left, mod-mul-add p.row t.cols _ inside.1, col)
     inner held (inr (inr (q, touches, gap))) = elim (cases_place p q) [
-      | inl same ↦ absurd (cc (has, gap, ap (λ (x : Place). is_some (height_at t x)) same))
+      | inl same ↦ absurd (cc (has, gap, ap (λ x. is_some (height_at t x)) same))
       | inr differ ↦
           let near = near_value p q inside held touches differ in
-          elim (cases_option (height_at t q)) [
-            | inl lacks ↦ none_some (entry_at t.cols t.rows levels q) near.0 (none q near.1 lacks) near.2
+          elim (cases_option _) [
+            | inl lacks ↦ none_some _ _ (none q near.1 lacks) near.2
             | inr some ↦ absurd (cc (gap, ap is_some some.1))
           ]
     ]
@@ -189,4 +180,4 @@ pub run_col : (cols first index : ℕ) → first ≤ index → first % cols + (i
 run_col cols first index from low =
     let at : index ≡ first / cols * cols + (first % cols + (index - first)) =
     omega (arith, div-add-mod' first cols, from) in
-    ap (λ n. n % cols) at ∙ mod-mul-add (first / cols) cols (first % cols + (index - first)) low
+    ap (λ n. n % cols) at ∙ mod-mul-add _ cols _ low

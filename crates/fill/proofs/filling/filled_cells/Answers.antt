@@ -13,7 +13,7 @@ whole_size t k read is size cuts = ap length is ∙ size ∙ ap (λ n. n * t.row
 
 pub invariant_of-tiles : goal.invariant_of-tiles
 invariant_of-tiles g c = rw (c.deref-2.ensures.value, c.deref-3.ensures.value) (record {
-  fit = fit_of c.args.grid.now.terrain c.args.tiling.now c.args.floods.items c.requires.floods;
+  fit = fit_of c.requires.floods;
   numbers = rw c.deref.ensures.value at c.in_ok-firsts.ensures;
 })
 
@@ -21,15 +21,14 @@ pub invariant_of-raised : goal.invariant_of-raised
 invariant_of-raised g c =
     let t = c.args.grid.now.terrain in
     let k = c.args.tiling.now in
-    let floods = c.args.floods.items in
     let are = c.requires.floods in record {
-      size = whole_size t k c.cells-read.result.now c.cells-read.ensures.value
+      size = whole_size t k _ c.cells-read.ensures.value
           c.cells-read.ensures.lawful.terrain.size are.cuts;
       lawful = are.lawful;
-      fit = fit_of t k floods are;
+      fit = fit_of are;
       numbers = rw c.deref.ensures.value at c.in_ok-firsts.ensures;
       crests_size = omega (arith, rw c.deref-2.ensures.value at c.in_ok-crests.ensures.size);
-      bare = bare_crests t k floods are c.in_ok-crests.crests.items
+      bare = bare_crests t k c.args.floods.items are c.in_ok-crests.crests.items
           ((rw (c.deref-2.ensures.value, c.deref-4.ensures.value) at c.in_ok-crests.ensures.crests) t are
           c.requires.meetings);
     }
@@ -42,14 +41,11 @@ pub are_held-requires-clause-cells : goal.are_held-requires-clause-cells
 are_held-requires-clause-cells g c =
     let t = c.args.grid.now.terrain in
     let k = c.args.tiling.now in
-    let floods = c.args.floods.items in
     let tiles = c.in_ok-runs.runs.items in
-    let size : length tiles ≡ c.tiles.result = omega (arith, c.in_ok-runs.runs.ok.0, c.in_ok-runs.ensures.len) in
-    rw c.deref-6.ensures.value (patched_map k floods c.in_ok-crests.crests.items c.cells-read.result.now
-    c.in_ok-cells.cells.items tiles c.requires.floods.lawful
-    (whole_size t k c.cells-read.result.now c.cells-read.ensures.value c.cells-read.ensures.lawful.terrain.size
+    rw c.deref-6.ensures.value (patched_map k c.args.floods.items _ tiles c.requires.floods.lawful
+    (whole_size t k _ c.cells-read.ensures.value c.cells-read.ensures.lawful.terrain.size
     c.requires.floods.cuts)
-    (size ∙ c.tiles.ensures.value)
+    (omega (arith, c.in_ok-runs.runs.ok.0, c.in_ok-runs.ensures.len) ∙ c.tiles.ensures.value)
     (rw c.tiles.ensures.value at c.in_ok-runs.ensures.given)
     (rw c.deref-5.ensures.value at c.in_ok-cells.ensures)).size
 
@@ -59,15 +55,13 @@ returns-then-are_held-clause-filled g c =
     let k = c.args.tiling.now in
     let are = c.requires.floods in
     let floods = c.args.floods.items in
-    let numbers = rw c.deref.ensures.value at c.in_ok-firsts.ensures in
     let tiles = c.in_ok-runs.runs.items in
     let size : length tiles ≡ c.tiles.result = omega (arith, c.in_ok-runs.runs.ok.0, c.in_ok-runs.ensures.len) in
     let crests = (rw (c.deref-2.ensures.value, c.deref-4.ensures.value) at c.in_ok-crests.ensures.crests) t are
     c.requires.meetings in
-    filled_map t k floods c.in_ok-crests.crests.items c.in_ok-cells.cells.items tiles numbers.lawful are crests
-    (rw c.cells-read.ensures.value at (patched_map k floods c.in_ok-crests.crests.items c.cells-read.result.now
-    c.in_ok-cells.cells.items tiles are.lawful
-    (whole_size t k c.cells-read.result.now c.cells-read.ensures.value c.cells-read.ensures.lawful.terrain.size
+    filled_map t k floods c.in_ok-crests.crests.items c.in_ok-cells.cells.items tiles (rw c.deref.ensures.value at c.in_ok-firsts.ensures).lawful are crests
+    (rw c.cells-read.ensures.value at (patched_map k floods _ tiles are.lawful
+    (whole_size t k _ c.cells-read.ensures.value c.cells-read.ensures.lawful.terrain.size
     are.cuts)
     (size ∙ c.tiles.ensures.value)
     (rw c.tiles.ensures.value at c.in_ok-runs.ensures.given)

@@ -10,27 +10,23 @@ loop-tile-preserved c =
     let past = c.loop-tile.yielded in
     record {
       floods = c.in_ok-push.ensures.items ∙ ap (λ z. z ++ x.flood ∷ []) c.loop-tile.invariant.floods
-          ∙ sym (map-append (λ (y : FloodWithMeetings). y.flood) past (x ∷ []));
+          ∙ sym (map-append _ past _);
       meetings = c.in_ok-push-2.ensures.items ∙ ap (λ z. z ++ x.meetings ∷ []) c.loop-tile.invariant.meetings
-          ∙ sym (map-append (λ (y : FloodWithMeetings). y.meetings) past (x ∷ []));
+          ∙ sym (map-append _ past _);
     }
 
 pub returns-clause-floods : goal.returns-clause-floods
 returns-clause-floods c =
-    let it = c.into_iter-tile-iterator in
-    let all = All-taken it.result c.loop-tile.yielded (
+    let all = All-taken c.into_iter-tile-iterator.result c.loop-tile.yielded (
       c.next.new.self,
       (c.loop-tile.tile-iterator, c.loop-tile.yielded_by, c.in-None.ensures.steps),
     ) in
-    c.loop-tile.invariant.floods
-    ∙ ap (map (λ (y : FloodWithMeetings). y.flood)) (all ∙ it.ensures.into_iter_gives.0)
+    cc
 
 pub returns-clause-meetings : goal.returns-clause-meetings
 returns-clause-meetings c =
-    let it = c.into_iter-tile-iterator in
-    let all = All-taken it.result c.loop-tile.yielded (
+    let all = All-taken c.into_iter-tile-iterator.result c.loop-tile.yielded (
       c.next.new.self,
       (c.loop-tile.tile-iterator, c.loop-tile.yielded_by, c.in-None.ensures.steps),
     ) in
-    c.loop-tile.invariant.meetings
-    ∙ ap (map (λ (y : FloodWithMeetings). y.meetings)) (all ∙ it.ensures.into_iter_gives.0)
+    cc

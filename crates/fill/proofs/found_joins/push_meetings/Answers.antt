@@ -13,18 +13,16 @@ loop-meeting-preserved c =
     let met = c.args.meetings.now in
     let index = c.loop-meeting.meeting-index in
     let x = get_or met index none in
-    let fits : SFits height_width x.level = search rules in
     c.in_ok-push.ensures.items
     ∙ ap (λ h. c.loop-meeting.joins.items
     ++ record { from = c.args.first + x.from; to = c.args.first + x.to; height = h }
-    ∷ []) (to_z-of_z height_width x.level fits)
+    ∷ []) (to_z-of_z height_width _ (search rules))
     ∙ ap (λ z. z ++ numbered c.args.first x ∷ []) c.loop-meeting.invariant
-    ∙ append_assoc c.args.joins.now.items (map (numbered c.args.first) (take index met))
-    (numbered c.args.first x ∷ [])
+    ∙ append_assoc c.args.joins.now.items _
+    _
     ∙ ap (λ z. c.args.joins.now.items ++ z)
-    (sym (map-append (numbered c.args.first) (take index met) (x ∷ []))
-    ∙ ap (map (numbered c.args.first)) (sym (take_more met index none c.loop-meeting-test.true)))
+    (sym (map-append _ _ _)
+    ∙ ap (map (numbered _)) (sym (take_more met index none c.loop-meeting-test.true)))
 
 pub returns : goal.returns
-returns c = c.loop-meeting.invariant ∙ ap (λ z. c.args.joins.now.items ++ map (numbered c.args.first) z)
-    (take_all c.loop-meeting.meeting-index c.args.meetings.now c.loop-meeting-test.false)
+returns c = cc (take_all _ _ c.loop-meeting-test.false)

@@ -3,4 +3,4 @@ use Rattle.fill.proofs.held.are_held.Goals as goal
 
 pub returns-then-are_tiles_held-clause-held : goal.returns-then-are_tiles_held-clause-held
 returns-then-are_tiles_held-clause-held c = rw (← c.cols.ensures.value)
-    (OnTrue_from c.are_as_read.result _ (λ _. OnTrue_at c.if-are_tiles_held.true c.are_tiles_held.ensures))
+    (OnTrue_from _ _ (λ _. OnTrue_at c.if-are_tiles_held.true c.are_tiles_held.ensures))

@@ -35,12 +35,11 @@ loop-way-preserved c way low = elim (cases_eq way c.loop-way.way) [
 
 pub returns : goal.returns
 returns c =
-    let fits : SFits height_width c.in-Some.level = search rules in
     record {
       level = c.in-Some.level;
       is = sym (get_or_read c.args.cells.now c.args.index c.index-cells-index.result
           (omega (arith, c.requires.below)) c.index-cells-index.is None) ∙ sym c.height.ensures ∙ c.in-Some.is;
       around = λ way low.
           let x = c.loop-way.invariant way (omega (arith, low, c.loop-way-test.false)) in
-          (x.0, x.1, rw (to_z-of_z height_width c.in-Some.level fits) at x.2);
+          (x.0, x.1, rw (to_z-of_z height_width c.in-Some.level (search rules)) at x.2);
     }

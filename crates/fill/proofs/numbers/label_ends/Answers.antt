@@ -4,5 +4,4 @@ use Rattle.fill.specs.Numbers.{ends_of}
 use Rattle.fill.proofs.numbers.label_ends.Goals as goal
 
 pub returns : goal.returns
-returns c = c.loop-flood.invariant
-    ∙ ap ends_of (take_all _ c.args.floods.now c.loop-flood-test.false)
+returns c = cc (take_all _ _ c.loop-flood-test.false)

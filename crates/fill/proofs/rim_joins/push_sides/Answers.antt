@@ -5,7 +5,7 @@ use Rattle.fill.proofs.rim_joins.push_sides.Goals.{then-cols-gt1+in_ok-push_cell
 
 pub push_cell-requires-clause-place : goal.push_cell-requires-clause-place
 push_cell-requires-clause-place c =
-    (omega (arith, c.loop-row-test.true, c.requires.bounds), omega (arith, c.requires.bounds, c.requires.some))
+    (omega arith)
 
 pub loop-row-init : goal.loop-row-init
 loop-row-init c j there = inl there

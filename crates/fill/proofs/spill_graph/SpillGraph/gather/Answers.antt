@@ -8,7 +8,7 @@ use Rattle.fill.proofs.spill_graph.SpillGraph.gather.Goals as goal
 
 pub invariant_of-tiles : goal.invariant_of-tiles
 invariant_of-tiles c = record {
-  fit = fit_of c.requires.0 c.args.tiling.now c.args.floods.now c.requires.1;
+  fit = fit_of c.requires.1;
   numbers = rw c.deref.ensures.value c.in_ok-firsts.ensures;
 }
 
@@ -17,11 +17,9 @@ placed_joins-requires c =
     let t = c.requires.0 in
     let k = c.args.tiling.now in
     let floods = c.args.floods.now in
-    let gathered : AreGathered k floods c.in_ok-gathered.gathered.items =
+    let gathered =
     c.in_ok-gathered.ensures in
-    let size : length (places_of floods) ≡ length c.in_ok-nodes.nodes.items =
-    sym (ap length c.in_ok-nodes.ensures ∙ length-map (places_of floods) (node_of_label k.cols)) in
-    rw (c.deref-2.ensures.value, c.deref-3.ensures.value, ← size)
+    rw (c.deref-2.ensures.value, c.deref-3.ensures.value, ← (sym (ap length c.in_ok-nodes.ensures ∙ length-map _ _)))
     (joins_below t k floods c.requires.1 c.in_ok-firsts.ensures.lawful _ gathered)
 
 pub invariant_of-result : goal.invariant_of-result
@@ -29,11 +27,10 @@ invariant_of-result c =
     let t = c.requires.0 in
     let k = c.args.tiling.now in
     let floods = c.args.floods.now in
-    let gathered : AreGathered k floods c.in_ok-gathered.gathered.items =
-    c.in_ok-gathered.ensures in (
+    (
       c.requires.1.lawful,
       is_graph t k floods c.requires.1 c.in_ok-firsts.ensures.lawful c.in_ok-nodes.nodes.items _ _
-          c.in_ok-joins.joins.items gathered c.in_ok-nodes.ensures
+          c.in_ok-joins.joins.items c.in_ok-gathered.ensures c.in_ok-nodes.ensures
           (rw (c.deref-2.ensures.value, c.deref-3.ensures.value) at c.in_ok-placed.ensures)
           c.in_ok-joins.ensures c.in_ok-sources.sources.items c.in_ok-sources.ensures.size,
     )
@@ -42,9 +39,7 @@ pub returns : goal.returns
 returns c t are =
     let k = c.args.tiling.now in
     let floods = c.args.floods.now in
-    let gathered : AreGathered k floods c.in_ok-gathered.gathered.items =
-    c.in_ok-gathered.ensures in
     is_graph_of t k floods are c.in_ok-firsts.ensures.lawful c.in_ok-nodes.nodes.items _ _
-    c.in_ok-joins.joins.items gathered c.in_ok-nodes.ensures
+    c.in_ok-joins.joins.items c.in_ok-gathered.ensures c.in_ok-nodes.ensures
     (rw (c.deref-2.ensures.value, c.deref-3.ensures.value) at c.in_ok-placed.ensures)
-    c.in_ok-joins.ensures c.in_ok-sources.sources.items (c.in_ok-sources.ensures.right t are)
+    c.in_ok-joins.ensures (c.in_ok-sources.ensures.right t are)
