@@ -31,7 +31,9 @@ pub record PutsFirst (c : Cutting) (f : Flood) (count : ℕ) (old new : List (Op
       (get_or f.ends k None) → IsEndAt c f (index_of c.cols p) (get_or new (index_of c.cols p) None)
 
 module _ {c : Cutting} {f : Flood} {old : List (Option ℤ)} where
-  pub one_put : (k : ℕ) (label : Option Place) (end : Option ℤ) {now : List (Option ℤ)} → label ≡ get_or f.table.places k None → end ≡ get_or f.ends k None → IfSome label (IsWithin c) → length old ≡ c.cols * c.rows → PutsFirst c f k old now → PutsFirst c f (k + 1) old (put_end c.cols label end now)
+  pub one_put : (k : ℕ) (label : Option Place) (end : Option ℤ) {now : List (Option ℤ)} →
+      label ≡ get_or f.table.places k None → end ≡ get_or f.ends k None → IfSome label (IsWithin c) →
+      length old ≡ c.cols * c.rows → PutsFirst c f k old now → PutsFirst c f (k + 1) old (put_end c.cols label end now)
   one_put k None end label_is end_is within size s = record {
     size = s.size;
     only = s.only;
@@ -52,15 +54,18 @@ module _ {c : Cutting} {f : Flood} {old : List (Option ℤ)} where
     size = length-set now (index_of c.cols q) (Some h) ∙ s.size;
     only = λ a. elim (cases_eq a (index_of c.cols q)) [
       | inl same ↦ inr (here a same)
-      | inr other ↦ subst (λ o. (o ≡ get_or old a None) ⊎ IsEndAt c f a o)
+      | inr other ↦
+          subst (λ o. (o ≡ get_or old a None) ⊎ IsEndAt c f a o)
           (sym (get_or-set_other now (index_of c.cols q) a (Some h) None other)) (s.only a)
     ];
     every = λ j p low e some. elim (cases_eq (index_of c.cols p) (index_of c.cols q)) [
       | inl same ↦ here (index_of c.cols p) same
       | inr other ↦ elim (cases_eq j k) [
-        | inl last ↦ absurd (other (ap (index_of c.cols)
-            (same_Some p q (sym e ∙ ap (λ n. get_or f.table.places n None) last ∙ sym label_is))))
-        | inr before ↦ subst (IsEndAt c f (index_of c.cols p))
+        | inl last ↦
+            absurd (other
+            (ap (index_of c.cols) (same_Some p q (sym e ∙ ap (λ n. get_or f.table.places n None) last ∙ sym label_is))))
+        | inr before ↦
+            subst (IsEndAt c f (index_of c.cols p))
             (sym (get_or-set_other now (index_of c.cols q) (index_of c.cols p) (Some h) None other))
             (s.every j p (omega (arith, low, before)) e some)
       ]
@@ -68,8 +73,8 @@ module _ {c : Cutting} {f : Flood} {old : List (Option ℤ)} where
   } where
     below : index_of c.cols q < length now
     below = omega (arith, index_below c.cols c.rows q within.0 within.1, s.size, size)
-    here : (a : ℕ) → a ≡ index_of c.cols q →
-        IsEndAt c f a (get_or (set now (index_of c.cols q) (Some h)) a None)
+
+    here : (a : ℕ) → a ≡ index_of c.cols q → IsEndAt c f a (get_or (set now (index_of c.cols q) (Some h)) a None)
     here a same = record {
       entry = k;
       place = q;
@@ -77,11 +82,12 @@ module _ {c : Cutting} {f : Flood} {old : List (Option ℤ)} where
       within = within;
       node = sym same;
       some = ap is_some (sym end_is);
-      is = ap (λ n. get_or (set now (index_of c.cols q) (Some h)) n None) same
-          ∙ get_or-set_same now (index_of c.cols q) (Some h) None below ∙ end_is;
+      is = ap (λ n. get_or (set now (index_of c.cols q) (Some h)) n None) same ∙
+          get_or-set_same now (index_of c.cols q) (Some h) None below ∙ end_is;
     }
 
-  pub all_put : {count : ℕ} {new : List (Option ℤ)} → length f.table.places ≤ count → PutsFirst c f count old new → PutsEnds c f old new
+  pub all_put : {count : ℕ} {new : List (Option ℤ)} → length f.table.places ≤ count → PutsFirst c f count old new →
+      PutsEnds c f old new
   all_put {count} all s = record {
     size = s.size;
     only = s.only;
@@ -106,13 +112,16 @@ pub record HaveEnds (t : Terrain) (c : Cutting) (floods : List Flood) (count : �
 
 module _ {t : Terrain} {c : Cutting} where
   -- The height that `IsEndAt` gives is that of an end cell with this node.
-  end_is : (f : Flood) (a : ℕ) (o : Option ℤ) → AreEndHeights t f.table.places f.ends → IsEndAt c f a o → (h : ℤ) × (o ≡ Some h) × IsEndNode t c a h
+  end_is : (f : Flood) (a : ℕ) (o : Option ℤ) → AreEndHeights t f.table.places f.ends → IsEndAt c f a o →
+      (h : ℤ) × (o ≡ Some h) × IsEndNode t c a h
   end_is f a o ends at =
       let some = data_is _ at.some in
       let end = MatchOption-at_some _ _ _ some.1 (ends.each at.entry at.place at.listed) in
       (some.0, at.is ∙ some.1, (at.place, at.node, end.0, end.1))
 
-  pub one_tile : (floods : List Flood) {tile : ℕ} {f : Flood} {old : List (Option ℤ)} (new : List (Option ℤ)) → AreFloods t c floods → slice_get floods tile ≡ Some f → IsFlood f → PutsEnds c f old new → HaveEnds t c floods tile old → HaveEnds t c floods (tile + 1) new
+  pub one_tile : (floods : List Flood) {tile : ℕ} {f : Flood} {old : List (Option ℤ)} (new : List (Option ℤ)) →
+      AreFloods t c floods → slice_get floods tile ≡ Some f → IsFlood f → PutsEnds c f old new →
+      HaveEnds t c floods tile old → HaveEnds t c floods (tile + 1) new
   one_tile floods {tile} {f} new are there lawful puts s = record {
     size = puts.size ∙ s.size;
     only = λ a h e. elim (puts.only a) [
@@ -132,8 +141,7 @@ module _ {t : Terrain} {c : Cutting} where
           | inl same ↦
               let g_is = same_Some g f (sym at ∙ ap (slice_get floods) same ∙ there) in
               let entry = entry_of k p (ap (λ (z : Flood). get_or z.labels k None) (sym g_is) ∙ e) in
-              from (get_or new (index_of c.cols p) None)
-              (puts.every entry.0 p entry.1 (some_end entry.0 p entry.1 end))
+              from (get_or new (index_of c.cols p) None) (puts.every entry.0 p entry.1 (some_end entry.0 p entry.1 end))
           | inr other ↦ elim (puts.only (index_of c.cols p)) [
             | inl kept ↦ kept ∙ s.every i g k p h (omega (arith, low, other)) at e end height
             | inr put ↦ from (get_or new (index_of c.cols p) None) put
@@ -143,8 +151,7 @@ module _ {t : Terrain} {c : Cutting} where
     ends : AreEndHeights t f.table.places f.ends
     ends = (are.each tile f there).ends
 
-    entry_of : (k : ℕ) (p : Place) → get_or f.labels k None ≡ Some p →
-        (j : ℕ) × (get_or f.table.places j None ≡ Some p)
+    entry_of : (k : ℕ) (p : Place) → get_or f.labels k None ≡ Some p → (j : ℕ) × (get_or f.table.places j None ≡ Some p)
     entry_of k p e =
         let at : get_or (labels_by f.table.places f.table.indexes) k None ≡ Some p =
         ap (λ (z : List (Option Place)). get_or z k None) (sym lawful.labels) ∙ e in
@@ -154,32 +161,38 @@ module _ {t : Terrain} {c : Cutting} where
             sym (get_or-map (λ n. get_or f.table.places n None) f.table.indexes k 0 None low) ∙ at,
           )
           | inr past ↦
-              none_some _ p (get_or_past (labels_by f.table.places f.table.indexes) k None (omega
-              (arith, past, length-map f.table.indexes (λ n. get_or f.table.places n None)))) at
+              none_some _ p (get_or_past (labels_by f.table.places f.table.indexes) k None
+              (omega (arith, past, length-map f.table.indexes (λ n. get_or f.table.places n None)))) at
         ]
 
-    some_end : (k : ℕ) (p : Place) → get_or f.table.places k None ≡ Some p → IsEnd t p →
-        IsSome (get_or f.ends k None)
+    some_end : (k : ℕ) (p : Place) → get_or f.table.places k None ≡ Some p → IsEnd t p → IsSome (get_or f.ends k None)
     some_end k p e end = elim (cases_option (get_or f.ends k None)) [
       | inl none ↦ absurd (MatchOption-at_none _ _ none (ends.each k p e) end)
       | inr found ↦ ap is_some found.1
     ]
 
   -- If `HaveEnds` holds of all tiles, the heights are those of the labels that are end cells.
-  pub all_tiles : {floods : List Flood} {count : ℕ} {heights : List (Option ℤ)} → AreFloods t c floods → length floods ≤ count → HaveEnds t c floods count heights → AreSourcesOf t c floods heights
+  pub all_tiles : {floods : List Flood} {count : ℕ} {heights : List (Option ℤ)} → AreFloods t c floods →
+      length floods ≤ count → HaveEnds t c floods count heights → AreSourcesOf t c floods heights
   all_tiles {floods} are all s = record {
     size = s.size;
-    right = λ g is. subst (λ z. AreGraphSources t c floods
-        (record { nodes = g.nodes; joins = g.joins; sources = z })) (sym is) (record {
+    right = λ g is. subst (λ z. AreGraphSources t c floods (record { nodes = g.nodes; joins = g.joins; sources = z }))
+        (sym is) (record {
           each = λ p h carries end height.
               let l = has_tile_level t are.lawful are p (ap is_some height) in
               let tile = tile_of_place c p in
-              let f = list_there floods tile
-              (omega (arith, are.count, tile_of_place_below c p are.lawful (data_within t c p are.cuts (ap is_some height)))) in
-              let entry = label_entry f.0 p (sym (among_is (λ g. label_in g p) floods tile f.1)
-              ∙ l.label_is ∙ ap Some (end_label t c l.right end)) in
-              s.every tile f.0 entry.0 p h
-              (omega (arith, slice_get_within floods tile _ f.1, all)) f.1 entry.1 end height;
+              let f =
+              list_there floods tile
+              (omega (
+                arith,
+                are.count,
+                tile_of_place_below c p are.lawful (data_within t c p are.cuts (ap is_some height)),
+              )) in
+              let entry =
+              label_entry f.0 p
+              (sym (among_is (λ g. label_in g p) floods tile f.1) ∙ l.label_is ∙ ap Some (end_label t c l.right end)) in
+              s.every tile f.0 entry.0 p h (omega (arith, slice_get_within floods tile _ f.1, all)) f.1 entry.1 end
+              height;
           only = λ a h e.
               let end = s.only a h e in
               let l = has_tile_level t are.lawful are end.0 (ap is_some end.3) in

@@ -7,7 +7,7 @@ use Rattle.terrain.specs.Neighbours.{index_of}
 use Rattle.terrain.specs.declared.place.Place.{Place}
 use Rattle.tiles.specs.Cutting.{Cutting, IsInBounds, View, bounds_of, index_in, row_shown}
 use Rattle.tiles.proofs.TileRows.{row_has}
-use Rattle.fill.specs.RaisedTiles.{HasRow, HasTile, cell_at}
+use Rattle.fill.specs.RaisedTiles.{HasRow, HasTile}
 use Rattle.fill.specs.declared.raised_tiles.RaisedTile.{RaisedTile}
 use Rattle.fill.specs.RaisedRuns.{AddsRow, AddsRun, AreRaised, IsFound, IsInRun, IsInRuns, IsPatched, PutsRun}
 use Rattle.fill.specs.declared.raised_runs.RaisedRun.{RaisedRun}
@@ -24,13 +24,15 @@ new_run runs i cell =
       sound = λ raised is all r k there inside. elim (Contains-push_cases runs run r there) [
         | inl before ↦ all r k before inside
         | inr same ↦
-            let at : i ≡ k =
-            omega (arith, inside, ap (λ q. q.first) same, ap (λ q. q.count) same) in
+            let at : i ≡ k = omega (arith, inside, ap (λ q. q.first) same, ap (λ q. q.count) same) in
             sym (cc) ∙ is ∙ ap raised at
       ];
     }
 
-pub longer_run : (ended : List RaisedRun) (last : RaisedRun) (i : ℕ) {cell : Option ℤ} → last.first + last.count ≡ i → last.cell ≡ cell → AddsRun i cell (ended ++ last ∷ []) (ended ++ record { first = last.first; count = last.count + 1; cell = last.cell } ∷ [])
+pub longer_run : (ended : List RaisedRun) (last : RaisedRun) (i : ℕ) {cell : Option ℤ} → last.first + last.count ≡ i →
+    last.cell ≡ cell →
+    AddsRun i cell (ended ++ last ∷ [])
+    (ended ++ record { first = last.first; count = last.count + 1; cell = last.cell } ∷ [])
 longer_run ended last i {cell} e level =
     let run : RaisedRun = record { first = last.first; count = last.count + 1; cell = last.cell } in
     record {
@@ -49,8 +51,7 @@ longer_run ended last i {cell} e level =
             let count = ap (λ (q : RaisedRun). q.count) same in
             sym (cc) ∙ elim (cases_eq k i) [
               | inl at ↦ level ∙ is ∙ ap raised (sym at)
-              | inr other ↦ all last k (Contains-push ended last)
-                  (omega arith, omega arith)
+              | inr other ↦ all last k (Contains-push ended last) (omega arith, omega arith)
             ]
       ];
     }
@@ -59,11 +60,11 @@ longer_run ended last i {cell} e level =
 
 module _ {raised : ℕ → Option ℤ} {read : List (Option ℤ)} {first : ℕ} where
   pub no_cells : (runs : List RaisedRun) → AddsRow raised read first 0 runs runs
-  no_cells runs =
-      record { kept = λ k x. x; sound = λ all. all; each = λ k below. absurd (omega arith) }
+  no_cells runs = record { kept = λ k x. x; sound = λ all. all; each = λ k below. absurd (omega arith) }
 
   -- From index k on and before m the cells read are the raised ones.
-  pub cells_stay : {k : ℕ} (m : ℕ) {old now : List RaisedRun} → AddsRow raised read first k old now → ((j : ℕ) → k ≤ j → j < m → get_or read j None ≡ raised (first + j)) → AddsRow raised read first m old now
+  pub cells_stay : {k : ℕ} (m : ℕ) {old now : List RaisedRun} → AddsRow raised read first k old now →
+      ((j : ℕ) → k ≤ j → j < m → get_or read j None ≡ raised (first + j)) → AddsRow raised read first m old now
   cells_stay {k} m s stay = record {
     kept = s.kept;
     sound = s.sound;
@@ -73,7 +74,8 @@ module _ {raised : ℕ → Option ℤ} {read : List (Option ℤ)} {first : ℕ} 
     ];
   }
 
-  pub cell_rises : (k : ℕ) {cell : Option ℤ} (old now next : List RaisedRun) → AddsRow raised read first k old now → AddsRun (first + k) cell now next → cell ≡ raised (first + k) → AddsRow raised read first (k + 1) old next
+  pub cell_rises : (k : ℕ) {cell : Option ℤ} (old now next : List RaisedRun) → AddsRow raised read first k old now →
+      AddsRun (first + k) cell now next → cell ≡ raised (first + k) → AddsRow raised read first (k + 1) old next
   cell_rises k old now next s more is = record {
     kept = λ j x. more.kept j (s.kept j x);
     sound = λ all. more.sound raised is (s.sound all);
@@ -154,7 +156,8 @@ in_run r i = elim (cases_lt i r.first) [
 ]
 
 module _ {raised : ℕ → Option ℤ} {old : List (Option ℤ)} where
-  pub patched_then : {now next : List (Option ℤ)} {A B : ℕ → Type 0} (C : ℕ → Type 0) → ((i : ℕ) → C i ↔ (A i ⊎ B i)) → IsPatched raised old A now → IsPatched raised now B next → IsPatched raised old C next
+  pub patched_then : {now next : List (Option ℤ)} {A B : ℕ → Type 0} (C : ℕ → Type 0) → ((i : ℕ) → C i ↔ (A i ⊎ B i)) →
+      IsPatched raised old A now → IsPatched raised now B next → IsPatched raised old C next
   patched_then C part a b = record {
     size = cc;
     each = λ i below. elim (b.each i (omega arith)) [
@@ -172,7 +175,8 @@ module _ {raised : ℕ → Option ℤ} {old : List (Option ℤ)} where
     ];
   }
 
-  pub patched_run : (r : RaisedRun) {new : List (Option ℤ)} → ((i : ℕ) → IsInRun r i → r.cell ≡ raised i) → PutsRun r old new → IsPatched raised old (IsInRun r) new
+  pub patched_run : (r : RaisedRun) {new : List (Option ℤ)} → ((i : ℕ) → IsInRun r i → r.cell ≡ raised i) →
+      PutsRun r old new → IsPatched raised old (IsInRun r) new
   patched_run r sound s = record {
     size = s.size;
     each = λ i below. elim (in_run r i) [

@@ -1,7 +1,6 @@
 -- Where each cell that rose is held and each level has a path below it, the levels are the filled
 -- heights.
-use Rattle.std.proofs.Common.{◌≡◌, ◌≢◌, ℕ, zero, suc, ◌+◌, ◌-◌, ◌*◌, ◌/◌, ◌%◌, ◌<◌, ◌≤◌, ◌⊎◌, inl, inr, ℤ, ◌≤ℤ◌, List, [], ◌∷◌, length, get_or, Option, None, Some, is_some, true, sym, ap, subst, refl, ◌∙◌, arith}
-use Rattle.std.specs.Ordering.{int_eq}
+use Rattle.std.proofs.Common.{◌≡◌, ◌≢◌, ℕ, zero, suc, ◌+◌, ◌-◌, ◌*◌, ◌/◌, ◌%◌, ◌<◌, ◌≤◌, ◌⊎◌, inl, inr, ℤ, ◌≤ℤ◌, List, [], ◌∷◌, length, get_or, Option, None, Some, is_some, sym, ap, subst, refl, ◌∙◌, arith}
 use native.Mathlib.Numerals.{unary_clauses}
 use Rattle.std.proofs.lemmas.Bool.{cases_Bool, false≢true}
 use Rattle.std.proofs.lemmas.Bool.Decides.{Decides-int_eq}
@@ -27,8 +26,7 @@ use Rattle.fill.specs.Held.{AreAsRead, IsHeld}
 pub around_below : (cols i count : ℕ) → cols < i → i + cols + 1 < count → (way : ℕ) → way < 8 →
     get_or (around_index cols i) way 0 < count
 around_below cols i count above below =
-    eight _
-    (omega (arith, below)) (omega (arith, below)) (omega (arith, below)) (omega (arith, below))
+    eight _ (omega (arith, below)) (omega (arith, below)) (omega (arith, below)) (omega (arith, below))
     (omega (arith, below)) (omega (arith, below)) (omega (arith, below)) (omega (arith, below))
 
 from_zero : (cols : ℕ) (q : Place) → (q.row - 0) * cols + (q.col - 0) ≡ index_of cols q
@@ -49,8 +47,8 @@ pub record IsSettled (t : Terrain) (levels : List (Option ℤ)) (p : Place) (lev
 module _ (t : Terrain) (levels : List (Option ℤ))
     (each : (p : Place) → IsDataCell t p → (level : ℤ) × IsSettled t levels p level) where
   -- No path leads out below the level of its first cell.
-  least : (rest : List Place) (p : Place) (level : ℤ) → entry_at t.cols t.rows levels p ≡ Some level →
-      IsPath t p rest → level ≤ℤ crest t p rest
+  least : (rest : List Place) (p : Place) (level : ℤ) → entry_at t.cols t.rows levels p ≡ Some level → IsPath t p rest →
+      level ≤ℤ crest t p rest
   least [] p level is path =
       let x = each p (first_is_data t p [] path) in
       elim x.1.held [
@@ -69,8 +67,7 @@ module _ (t : Terrain) (levels : List (Option ℤ))
       ]
 
   pub settled_filled : length levels ≡ t.cols * t.rows →
-      ((p : Place) → IsInside t p → height_at t p ≡ None → entry_at t.cols t.rows levels p ≡ None) →
-      IsFilled t levels
+      ((p : Place) → IsInside t p → height_at t p ≡ None → entry_at t.cols t.rows levels p ≡ None) → IsFilled t levels
   settled_filled size none = record {
     size = size;
     each = λ p inside. match_of _ _ _ (none p inside) (λ h some.
@@ -80,11 +77,7 @@ module _ (t : Terrain) (levels : List (Option ℤ))
           x.0,
           x.1.entry,
           record {
-            reached = (
-              x.1.low.0,
-              x.1.low.1,
-              between _ _ x.1.low.2 (least_of x.1.low.0 x.1.low.1),
-            );
+            reached = (x.1.low.0, x.1.low.1, between _ _ x.1.low.2 (least_of x.1.low.0 x.1.low.1));
             least = least_of;
           },
         ));
@@ -94,17 +87,17 @@ module _ (t : Terrain) (levels : List (Option ℤ))
 module _ (t : Terrain) (levels : List (Option ℤ)) (size : length levels ≡ t.cols * t.rows)
     (none : (p : Place) → IsInside t p → height_at t p ≡ None → entry_at t.cols t.rows levels p ≡ None)
     (sinks : AreAsRead t.cols t.cells levels t.sinks) where
-  near_value : (p q : Place) → IsInside t p → IsHeld t.cols levels (index_of t.cols p) →
-      Touches p q → p ≢ q → (near : ℤ) × IsInside t q
-      × (entry_at t.cols t.rows levels q ≡ Some near)
-      × ((level : ℤ) → entry_at t.cols t.rows levels p ≡ Some level → level ≤ℤ near)
+  near_value : (p q : Place) → IsInside t p → IsHeld t.cols levels (index_of t.cols p) → Touches p q → p ≢ q →
+      (near : ℤ) × IsInside t q × (entry_at t.cols t.rows levels q ≡ Some near) ×
+      ((level : ℤ) → entry_at t.cols t.rows levels p ≡ Some level → level ≤ℤ near)
   near_value p q inside held touches differ =
       let i = index_of t.cols p in
       let col = mod-mul-add p.row t.cols p.col inside.1 in
       let row = div-mul-add p.row t.cols p.col inside.1 in
       let below : p.row + 1 < t.rows = last_row held.before in
       let way = way_to p q touches differ in
-      let at = on_ways 0 0 t.cols i p (p.row - 1) (p.col - 1) (omega (arith, some_row held.after))
+      let at =
+      on_ways 0 0 t.cols i p (p.row - 1) (p.col - 1) (omega (arith, some_row held.after))
       (omega (arith, held.left, col)) (omega arith) (omega arith) (simp unary_clauses refl) way.0 way.1 in
       let same = same_Some at.0 q (sym at.1.on ∙ way.2) in
       let q_inside : IsInside t q =
@@ -112,9 +105,12 @@ module _ (t : Terrain) (levels : List (Option ℤ)) (size : length levels ≡ t.
       let near = held.around.around way.0 way.1 in (
         near.0,
         q_inside,
-        entry-inside t.cols t.rows levels q q_inside.0 q_inside.1
-            ∙ ap (λ n. get_or levels n None) (ap (index_of t.cols) (sym same) ∙ sym (from_zero t.cols at.0) ∙ at.1.index) ∙ near.1,
-        λ level is. subst (λ z. z ≤ℤ near.0) (same_Some held.around.level level
+        entry-inside t.cols t.rows levels q q_inside.0 q_inside.1 ∙
+            ap (λ n. get_or levels n None)
+            (ap (index_of t.cols) (sym same) ∙ sym (from_zero t.cols at.0) ∙ at.1.index) ∙ near.1,
+        λ level is.
+            subst (λ z. z ≤ℤ near.0)
+            (same_Some held.around.level level
             (sym held.around.is ∙ sym (entry-inside t.cols t.rows levels p inside.0 inside.1) ∙ is)) near.2,
       )
     where
@@ -123,15 +119,16 @@ module _ (t : Terrain) (levels : List (Option ℤ)) (size : length levels ≡ t.
         positive : (row col : ℕ) → col < t.cols → t.cols ≤ row * t.cols + col → 1 ≤ row
         positive zero col few after = absurd (omega (arith, few, after))
         positive (suc row) col few after = omega arith
+
       last_row : index_of t.cols p + t.cols < length levels → p.row + 1 < t.rows
       last_row before = below (p.row + 1) t.rows (omega (arith, before, size)) where
         below : (n m : ℕ) → n * t.cols < t.cols * m → n < m
         below n m less = grind (arith, less)
 
   pub settled : (p : Place) (level : ℤ) → IsDataCell t p → entry_at t.cols t.rows levels p ≡ Some level →
-      HasLowPath t level p → (IsHeld t.cols levels (index_of t.cols p)
-      ⊎ (get_or levels (index_of t.cols p) None ≡ get_or t.cells (index_of t.cols p) None)) →
-      IsSettled t levels p level
+      HasLowPath t level p →
+      (IsHeld t.cols levels (index_of t.cols p) ⊎
+      (get_or levels (index_of t.cols p) None ≡ get_or t.cells (index_of t.cols p) None)) → IsSettled t levels p level
   settled p level has is low way = record {
     entry = is;
     low = low;
@@ -143,7 +140,8 @@ module _ (t : Terrain) (levels : List (Option ℤ)) (size : length levels ≡ t.
           inner = λ end. elim end [
             | inl edge ↦ inner held edge.1
             | inr sink ↦
-                absurd (false≢true (sym other ∙ (Decides-int_eq _ level).1 (own (All-contains IsAsRead _ p sinks sink.1))))
+                absurd (false≢true (sym other ∙
+                (Decides-int_eq _ level).1 (own (All-contains IsAsRead _ p sinks sink.1))))
           ];
           around = λ q next.
               let near = near_value p q inside held next.touches next.different in
@@ -154,16 +152,18 @@ module _ (t : Terrain) (levels : List (Option ℤ)) (size : length levels ≡ t.
   } where
     IsAsRead : Place → Type 0
     IsAsRead r = get_or levels (index_of t.cols r) None ≡ get_or t.cells (index_of t.cols r) None
+
     inside : IsInside t p
     inside = inside_from_entry _ _ levels p level is
-    own : get_or levels (index_of t.cols p) None ≡ get_or t.cells (index_of t.cols p) None →
-        height_of t p ≡ level
-    own as_read = height_is t p level (entry-inside _ _ _ p inside.0 inside.1
-        ∙ sym as_read ∙ sym (entry-inside _ _ levels p inside.0 inside.1) ∙ is)
+
+    own : get_or levels (index_of t.cols p) None ≡ get_or t.cells (index_of t.cols p) None → height_of t p ≡ level
+    own as_read =
+        height_is t p level
+        (entry-inside _ _ _ p inside.0 inside.1 ∙ sym as_read ∙ sym (entry-inside _ _ levels p inside.0 inside.1) ∙ is)
+
     inner : IsHeld t.cols levels (index_of t.cols p) → HasGapAround t p → ⊥
     inner held (inl row) = omega (arith, held.after, row, inside, ap (λ n. n * t.cols) row)
-    inner held (inr (inl col)) =
-        omega (arith, held.left, mod-mul-add p.row t.cols _ inside.1, col)
+    inner held (inr (inl col)) = omega (arith, held.left, mod-mul-add p.row t.cols _ inside.1, col)
     inner held (inr (inr (q, touches, gap))) = elim (cases_place p q) [
       | inl same ↦ absurd (cc (has, gap, ap (λ x. is_some (height_at t x)) same))
       | inr differ ↦

@@ -1,12 +1,10 @@
 use Rattle.std.proofs.Common.{ap, ◌∙◌}
 use Rattle.terrain.specs.Raster.{Raster}
-use Rattle.drainage.specs.Filled.{IsFilled}
 use Rattle.fill.proofs.Raised.{filled_stand, filled_grid}
 use Rattle.fill.proofs.filling.filled.Goals as goal
 
 pub with_cells-requires-clause-size : goal.with_cells-requires-clause-size
-with_cells-requires-clause-size g c =
-    rw c.frame.ensures.value c.in_ok-cells.ensures.filled.size
+with_cells-requires-clause-size g c = rw c.frame.ensures.value c.in_ok-cells.ensures.filled.size
 
 pub with_cells-requires-clause-heights : goal.with_cells-requires-clause-heights
 with_cells-requires-clause-heights g c =
@@ -14,14 +12,11 @@ with_cells-requires-clause-heights g c =
 
 pub from_grid-requires : goal.from_grid-requires
 from_grid-requires g c =
-    (filled_grid _ (c.in-Ok.ensures ∙ ap
-    (λ (r : Raster). record r { terrain = record r.terrain { cells = c.in_ok-cells.cells.items } })
+    (filled_grid _ (c.in-Ok.ensures ∙
+    ap (λ (r : Raster). record r { terrain = record r.terrain { cells = c.in_ok-cells.cells.items } })
     c.frame.ensures.value) c.in_ok-cells.ensures.filled).0
 
 pub returns-clause-filled : goal.returns-clause-filled
-returns-clause-filled g c =
-    rw c.from_grid.ensures (filled_grid _
-    (c.in-Ok.ensures ∙ ap (λ (r : Raster). record r {
-      terrain =
-          record r.terrain { cells = c.in_ok-cells.cells.items };
-    }) c.frame.ensures.value) c.in_ok-cells.ensures.filled).1
+returns-clause-filled g c = rw c.from_grid.ensures (filled_grid _ (c.in-Ok.ensures ∙ ap (λ (r : Raster). record r {
+  terrain = record r.terrain { cells = c.in_ok-cells.cells.items };
+}) c.frame.ensures.value) c.in_ok-cells.ensures.filled).1

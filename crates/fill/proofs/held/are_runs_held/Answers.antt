@@ -9,7 +9,9 @@ loop-run-preserved c i is =
     let runs = c.args.runs.now in
     let k = c.loop-run.run-index in
     let r = c.run-item.result in
-    elim ((in_pushed IsInRun _ r i).0 (subst (λ z. IsInRuns z i) (take_more runs k r c.loop-run-test.true ∙ ap (λ x. take k runs ++ x ∷ []) (sym c.run-item.is)) is)) [
+    elim ((in_pushed IsInRun _ r i).0
+    (subst (λ z. IsInRuns z i)
+    (take_more runs k r c.loop-run-test.true ∙ ap (λ x. take k runs ++ x ∷ []) (sym c.run-item.is)) is)) [
       | inl early ↦ c.loop-run.invariant i early
       | inr here ↦ c.if-not-is_run_held.ensures i here
     ]

@@ -13,10 +13,11 @@ loop-runs-preserved c i is =
     let tiles = c.args.tiles.now in
     let k = c.loop-runs.runs-index in
     let v = c.runs-item.result in
-    elim ((in_pushed is_in _ v i).0 (subst (λ z. IsInTiles z i) (take_more tiles k v c.loop-runs-test.true ∙ ap (λ x. take k tiles ++ x ∷ []) (sym c.runs-item.is)) is)) [
+    elim ((in_pushed is_in _ v i).0
+    (subst (λ z. IsInTiles z i)
+    (take_more tiles k v c.loop-runs-test.true ∙ ap (λ x. take k tiles ++ x ∷ []) (sym c.runs-item.is)) is)) [
       | inl early ↦ c.loop-runs.invariant i early
-      | inr here ↦
-          (rw c.deref.ensures.value at c.if-not-are_runs_held.ensures) i here
+      | inr here ↦ (rw c.deref.ensures.value at c.if-not-are_runs_held.ensures) i here
     ]
 
 pub returns : goal.returns

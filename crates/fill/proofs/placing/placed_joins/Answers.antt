@@ -1,4 +1,4 @@
-use Rattle.std.proofs.Common.{get_or, pos}
+use Rattle.std.proofs.Common.{pos}
 use Rattle.std.proofs.lemmas.List.{take_all, take_more}
 use Rattle.fill.specs.declared.spill_graph.Join.{Join}
 use Rattle.fill.proofs.Placed.{placed_then, one_placed, not_placed}
@@ -13,8 +13,7 @@ loop-join-preserved c =
       | in-Some+in_ok-push+in_ok-push-2 w ↦
           rw (take_more c.args.joins.now c.loop-join.join-index none c.loop-join-test.true)
           (placed_then nodes _ _ c.loop-join.invariant
-          (rw
-          (w.placed-is, w.in_ok-push-2.ensures.items, w.in_ok-push.ensures.items, w.turned.ensures)
+          (rw (w.placed-is, w.in_ok-push-2.ensures.items, w.in_ok-push.ensures.items, w.turned.ensures)
           (one_placed _ (rw w.in-Some.is at c.place_join.ensures))))
       | in_default w ↦
           rw (take_more c.args.joins.now c.loop-join.join-index none c.loop-join-test.true)
@@ -23,5 +22,4 @@ loop-join-preserved c =
     ]
 
 pub returns : goal.returns
-returns c = rw (take_all _ _ c.loop-join-test.false)
-    at c.loop-join.invariant
+returns c = rw (take_all _ _ c.loop-join-test.false) at c.loop-join.invariant

@@ -16,8 +16,9 @@ loop-runs-preserved c raised all =
     let i = c.loop-runs.runs-index in
     let v = c.runs-item.result in
     let read = sym c.runs-item.is in
-    rw (take_more _ i v c.loop-runs-test.true, read) (patched_then _ (in_pushed is_in _ _) (c.loop-runs.invariant raised all) ((rw c.deref.ensures.value at c.put_runs.ensures) raised (all v (i, c.loop-runs-test.true, read))))
+    rw (take_more _ i v c.loop-runs-test.true, read)
+    (patched_then _ (in_pushed is_in _ _) (c.loop-runs.invariant raised all)
+    ((rw c.deref.ensures.value at c.put_runs.ensures) raised (all v (i, c.loop-runs-test.true, read))))
 
 pub returns : goal.returns
-returns c raised all = rw (take_all _ _ c.loop-runs-test.false)
-    at c.loop-runs.invariant raised all
+returns c raised all = rw (take_all _ _ c.loop-runs-test.false) at c.loop-runs.invariant raised all

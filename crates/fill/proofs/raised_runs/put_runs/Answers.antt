@@ -12,8 +12,9 @@ loop-run-preserved c raised all =
     let i = c.loop-run.run-index in
     let r = c.run-item.result in
     let read = sym c.run-item.is in
-    rw (take_more _ i r c.loop-run-test.true, read) (patched_then _ (in_pushed IsInRun _ r) (c.loop-run.invariant raised all) (patched_run r (λ k inside. all r k (i, c.loop-run-test.true, read) inside) c.put_run.ensures))
+    rw (take_more _ i r c.loop-run-test.true, read)
+    (patched_then _ (in_pushed IsInRun _ r) (c.loop-run.invariant raised all)
+    (patched_run r (λ k inside. all r k (i, c.loop-run-test.true, read) inside) c.put_run.ensures))
 
 pub returns : goal.returns
-returns c raised all = rw (take_all _ _ c.loop-run-test.false)
-    at c.loop-run.invariant raised all
+returns c raised all = rw (take_all _ _ c.loop-run-test.false) at c.loop-run.invariant raised all

@@ -1,4 +1,4 @@
-use Rattle.std.proofs.Common.{◌+◌, ◌-◌, ◌/◌, ◌<◌, length, ℕ, arith}
+use Rattle.std.proofs.Common.{◌+◌, ◌-◌, ◌/◌, arith}
 use Rattle.fill.proofs.GraphParts.{below_more, above_more}
 use Rattle.fill.proofs.spill_graph.first_from.Goals as goal
 
@@ -9,8 +9,7 @@ loop-low-preserved-then-joins-middle c =
     record {
       low = omega arith;
       high = i.high;
-      below =
-          below_more _ _ middle _ c.requires (omega arith) c.if-joins-middle.true;
+      below = below_more _ _ middle _ c.requires (omega arith) c.if-joins-middle.true;
       above = i.above;
     }
 
@@ -21,6 +20,5 @@ loop-low-preserved c =
       low = omega arith;
       high = omega arith;
       below = c.loop-low.invariant.below;
-      above = above_more _ _ middle _ c.requires (omega arith)
-          c.if-joins-middle.false;
+      above = above_more _ _ middle _ c.requires (omega arith) c.if-joins-middle.false;
     }

@@ -11,8 +11,7 @@ use Rattle.fill.proofs.cell_labels.NumberedFloods.cell_label_of_tile.Goals as go
 
 pub bounds-self-own : goal.bounds-self-own
 bounds-self-own c =
-    let below = tile_of_place_below _ _ c.requires.lawful
-    c.requires.place.0 in
+    let below = tile_of_place_below _ _ c.requires.lawful c.requires.place.0 in
     omega arith
 
 pub returns-in_err-cell_label : goal.returns-in_err-cell_label
@@ -21,16 +20,13 @@ returns-in_err-cell_label c =
     let floods = c.args.self.now.floods.now in
     let own = c.args.own in
     let below = tile_of_place_below t _ c.requires.lawful c.requires.place.0 in
-    let there = slice_get-get_or floods own _
-    (omega arith) in
-    c.from_residual.ensures ∙ sym (among_shift t floods own _ _ there c.requires.place.1
-    ∙ ap (option_map (shift (first_of floods own)))
-    (sym c.cell_label_in.ensures ∙ c.in_err-cell_label.was))
+    let there = slice_get-get_or floods own _ (omega arith) in
+    c.from_residual.ensures ∙ sym (among_shift t floods own _ _ there c.requires.place.1 ∙
+    ap (option_map (shift (first_of floods own))) (sym c.cell_label_in.ensures ∙ c.in_err-cell_label.was))
 
 pub bounds-self-own-2 : goal.bounds-self-own-2
 bounds-self-own-2 c =
-    let below = tile_of_place_below _ _ c.requires.lawful
-    c.requires.place.0 in
+    let below = tile_of_place_below _ _ c.requires.lawful c.requires.place.0 in
     omega arith
 
 pub overflow_add-result : goal.overflow_add-result
@@ -39,13 +35,10 @@ overflow_add-result c =
     let floods = c.args.self.now.floods.now in
     let own = c.args.own in
     let f = get_or floods own c.index-self-own.result in
-    let below = tile_of_place_below _ _ c.requires.lawful
-    c.requires.place.0 in
-    let low : own < length floods =
-    omega arith in
+    let below = tile_of_place_below _ _ c.requires.lawful c.requires.place.0 in
+    let low : own < length floods = omega arith in
     let there = slice_get-get_or floods own _ low in
-    let inside = index_inside f _
-    (numbers.lawful own f there) (sym c.cell_label_in.ensures ∙ c.in_ok-cell_label.was) in
+    let inside = index_inside f _ (numbers.lawful own f there) (sym c.cell_label_in.ensures ∙ c.in_ok-cell_label.was) in
     omega (arith, numbers.few own f there, numbers.each own low, inside)
 
 pub returns : goal.returns
@@ -56,11 +49,10 @@ returns c =
     let f = get_or floods own c.index-self-own.result in
     let m = c.in_ok-cell_label.cell_label in
     let below = tile_of_place_below t _ c.requires.lawful c.requires.place.0 in
-    let low : own < length floods =
-    omega arith in
+    let low : own < length floods = omega arith in
     let there = slice_get-get_or floods own _ low in
     let fits : SFits height_width m.level = search rules in
-    let known = among_shift t floods own f _ there c.requires.place.1
-    ∙ ap (option_map (shift (first_of floods own)))
-    (sym c.cell_label_in.ensures ∙ c.in_ok-cell_label.was) in
+    let known =
+    among_shift t floods own f _ there c.requires.place.1 ∙
+    ap (option_map (shift (first_of floods own))) (sym c.cell_label_in.ensures ∙ c.in_ok-cell_label.was) in
     rw (to_z-of_z height_width _ fits, c.args.self.now.numbers.each own low) (sym known)

@@ -1,4 +1,4 @@
-use Rattle.std.proofs.Common.{rules, ◌≡◌, ◌<◌, ◌∙◌, ap, sym, subst, get_or, length, arith}
+use Rattle.std.proofs.Common.{rules, ◌<◌, ap, sym, subst, length, arith}
 use mir.Val.{SFits}
 use Rattle.std.proofs.lemmas.Int.{to_z-of_z}
 use Rattle.std.specs.Int.Signed.{≤ℤ_refl}
@@ -11,8 +11,7 @@ use Rattle.fill.proofs.crests.Search.give_crest.Goals as goal
 pub loop-preserved : goal.loop-preserved
 loop-preserved c =
     let fits : SFits height_width c.args.crest = search rules in
-    let low : c.loop.at < length c.loop.self.next.items =
-    omega (
+    let low : c.loop.at < length c.loop.self.next.items = omega (
       arith,
       c.if-at-count.false,
       c.min-count.ensures,

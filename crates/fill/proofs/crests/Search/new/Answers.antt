@@ -1,5 +1,4 @@
-use Rattle.std.proofs.Common.{sym, subst, arith}
-use Rattle.fill.specs.Crests.{Leaves}
+use Rattle.std.proofs.Common.{arith}
 use Rattle.fill.proofs.crests.Search.new.Goals as goal
 
 pub returns-clause-rings : goal.returns-clause-rings

@@ -1,4 +1,3 @@
-use Rattle.fill.specs.RaisedRuns.{runs_of}
 use Rattle.fill.proofs.RaisedRuns.{longer_run, new_run}
 use Rattle.fill.proofs.raised_runs.RunList.add.Goals as goal
 
