@@ -18,56 +18,47 @@ use Rattle.fill.proofs.LabelNets.{list_there}
 -- `map` makes the item at an index from the item at that index.
 image_at : {X Y : Type 0} (g : X → Y) (xs : List X) (ys : List Y) (i : ℕ) (y : Y) → ys ≡ map g xs →
     slice_get ys i ≡ Some y → (x : X) × (slice_get xs i ≡ Some x) × (g x ≡ y)
-image_at {Y = Y} g xs ys i y is there =
-    let low : i < length xs =
-    omega (arith, slice_get_within ys i y there, ap length is, length-map xs g) in
+image_at g xs ys i y is there =
+    let low : i < length xs = omega (arith, slice_get_within ys i y there, ap length is, length-map xs g) in
     let x = list_there xs i low in (
       x.0,
       x.1,
-      ap g (sym (get_or_from_slice_get xs i x.0 x.0 x.1)) ∙ sym (get_or-map g xs i x.0 y low)
-          ∙ ap (λ (z : List Y). get_or z i y) (sym is) ∙ get_or_from_slice_get ys i y y there,
+      ap g (sym (get_or_from_slice_get xs i x.0 x.0 x.1)) ∙ sym (get_or-map g xs i _ y low) ∙
+          ap (λ z. get_or z i y) (sym is) ∙ get_or_from_slice_get ys i y y there,
     )
 
 module _ (t : Terrain) (c : Cutting) (tiles : List FloodWithMeetings) (n : ℕ) (size : length tiles ≡ n)
-    (given : AreResults (λ job (x : FloodWithMeetings). IsTileFlood t c job x.flood
-    × All (IsMeeting t x.flood) x.meetings.items) n tiles)
+    (given : AreResults
+    (λ job (x : FloodWithMeetings). IsTileFlood t c job x.flood × All (IsMeeting t x.flood) x.meetings.items) n tiles)
     (floods : List Flood) (floods_are : floods ≡ map (λ (x : FloodWithMeetings). x.flood) tiles) where
-  here : (tile : ℕ) (x : FloodWithMeetings) → slice_get tiles tile ≡ Some x →
+  here : (tile : ℕ) {x : FloodWithMeetings} → slice_get tiles tile ≡ Some x →
       IsTileFlood t c tile x.flood × All (IsMeeting t x.flood) x.meetings.items
-  here tile x e = subst (λ (y : FloodWithMeetings). IsTileFlood t c tile y.flood
-      × All (IsMeeting t y.flood) y.meetings.items) (get_or_from_slice_get tiles tile x x e)
+  here tile {x} e =
+      rw (get_or_from_slice_get tiles tile x x e) at
       (given tile x (omega (arith, size, slice_get_within tiles tile x e)))
 
   pub floods_given : IsCutting c → Cuts c t → n ≡ tile_count c → AreFloods t c floods
   floods_given h cuts same = record {
     lawful = h;
     cuts = cuts;
-    count = omega (
-      arith,
-      ap length floods_are,
-      length-map tiles (λ (x : FloodWithMeetings). x.flood),
-      size,
-      same,
-    );
-    each = λ tile f e. let x = image_at (λ (x : FloodWithMeetings). x.flood)
-        tiles floods tile f floods_are e in subst (IsTileFlood t c tile) x.2 (here tile x.0 x.1).0;
+    count = omega (arith, ap length floods_are, length-map tiles (λ x. x.flood), size, same);
+    each = λ tile f e. let x = image_at (λ x. x.flood) tiles floods tile f floods_are e in rw x.2 at (here tile x.1).0;
   }
 
-  pub meetings_given : (met : List (Vec Meeting Global)) →
-      met ≡ map (λ (x : FloodWithMeetings). x.meetings) tiles → AreMet t floods met
+  pub meetings_given : (met : List (Vec Meeting Global)) → met ≡ map (λ (x : FloodWithMeetings). x.meetings) tiles →
+      AreMet t floods met
   meetings_given met met_are = record {
     count = omega (
       arith,
       ap length floods_are,
       ap length met_are,
-      length-map tiles (λ (x : FloodWithMeetings). x.flood),
-      length-map tiles (λ (x : FloodWithMeetings). x.meetings),
+      length-map tiles (λ x. x.flood),
+      length-map tiles (λ x. x.meetings),
     );
     each = λ tile f list e h.
-        let x = image_at (λ (x : FloodWithMeetings). x.flood) tiles floods tile f floods_are e in
-        let y = image_at (λ (x : FloodWithMeetings). x.meetings) tiles met tile list met_are h in
-        let same : x.0 ≡ y.0 = same_Some x.0 y.0 (sym x.1 ∙ y.1) in
+        let x = image_at (λ x. x.flood) tiles floods tile f floods_are e in
+        let y = image_at (λ x. x.meetings) tiles met tile list met_are h in
         subst (λ (g : Flood). All (IsMeeting t g) list.items) x.2
         (subst (λ (z : Vec Meeting Global). All (IsMeeting t x.0.flood) z.items)
-        (ap (λ (z : FloodWithMeetings). z.meetings) same ∙ y.2) (here tile x.0 x.1).1);
+        (ap (λ (z : FloodWithMeetings). z.meetings) (same_Some x.0 y.0 (cc)) ∙ y.2) (here tile x.1).1);
   }

@@ -1,6 +1,6 @@
 -- In `places_of` and `ends_of`, a label's number is the index of its place and, if it is an end
 -- cell, of its height.
-use Rattle.std.proofs.Common.{◌≡◌, ℕ, zero, suc, ◌+◌, ◌*◌, ◌<◌, ◌≤◌, ℤ, List, [], ◌∷◌, length, get_or, take, Option, None, Some, ◌∙◌, sym, ap, subst, refl, arith}
+use Rattle.std.proofs.Common.{◌≡◌, ℕ, zero, suc, ◌+◌, ◌<◌, ◌≤◌, ℤ, List, [], ◌∷◌, length, get_or, take, None, Some, ◌∙◌, sym, subst, refl, arith}
 use Rattle.std.specs.Prelude.{slice_get}
 use Rattle.std.specs.List.{flat_map}
 use Rattle.std.proofs.lemmas.Bool.{cond-true}
@@ -15,7 +15,6 @@ use Rattle.tiles.proofs.Cut.{in_bounds_from}
 use Rattle.cell_floods.specs.Labels.{labels_by}
 use Rattle.cell_floods.specs.TileFlood.{Flood, IsFlood, level_in, label_in}
 use Rattle.fill.specs.Gathering.{Fit, cell_label_among}
-use Rattle.tiles.specs.declared.bounds.Bounds.{Bounds}
 use Rattle.fill.specs.Numbers.{places_of, ends_of, first_of}
 use Rattle.fill.specs.SpillGraph.{AreFloods, level_among, label_among}
 use Rattle.fill.specs.declared.cell_labels.CellLabel.{CellLabel}
@@ -24,76 +23,63 @@ use Rattle.fill.proofs.LabelNets.{among_is, list_there}
 
 -- If `g` and `h` give lists of equal lengths for each item, their `flat_map`s over the first `i`
 -- items have equal lengths.
-flat_same : {X Y Z : Type 0} (g : X → List Y) (h : X → List Z) (xs : List X) (i : ℕ) →
-    i ≤ length xs →
-    ((k : ℕ) (d : X) → k < length xs → length (g (get_or xs k d)) ≡ length (h (get_or xs k d)))
-    → length (flat_map g (take i xs)) ≡ length (flat_map h (take i xs))
+flat_same : {X Y Z : Type 0} (g : X → List Y) (h : X → List Z) (xs : List X) (i : ℕ) → i ≤ length xs →
+    ((k : ℕ) (d : X) → k < length xs → length (g (get_or xs k d)) ≡ length (h (get_or xs k d))) →
+    length (flat_map g (take i xs)) ≡ length (flat_map h (take i xs))
 flat_same g h [] zero low same = refl
-flat_same g h [] (suc i) low same = absurd (omega (arith, low))
+flat_same g h [] (suc i) low same = absurd (omega arith)
 flat_same g h (x ∷ xs) zero low same = refl
 flat_same g h (x ∷ xs) (suc i) low same =
     let here = same 0 x (omega arith) in
-    let rest =
-    flat_same g h xs i (omega (arith, low)) (λ k d below. same (suc k) d (omega (arith, below))) in
-    length-append (g x) (flat_map g (take i xs)) ∙ omega (arith, here, rest)
-    ∙ sym (length-append (h x) (flat_map h (take i xs)))
+    let rest = flat_same g h xs i (omega arith) (λ k d below. same (suc k) d (omega arith)) in
+    length-append (g x) (flat_map g (take i xs)) ∙ omega arith ∙ sym (length-append (h x) (flat_map h (take i xs)))
 
 -- In `places_of`, the place at the number of an entry of a tile's table is that entry.
-pub place_at : (floods : List Flood) (tile k : ℕ) (f : Flood) →
-    slice_get floods tile ≡ Some f → k < length f.table.places →
-    get_or (places_of floods) (first_of floods tile + k) None ≡ get_or f.table.places k None
-place_at floods tile k f there inside =
+pub place_at : (floods : List Flood) (tile k : ℕ) {f : Flood} → slice_get floods tile ≡ Some f →
+    k < length f.table.places → get_or (places_of floods) (first_of floods tile + k) None ≡ get_or f.table.places k None
+place_at floods tile k {f} there inside =
     let is = get_or_from_slice_get floods tile f f there in
-    get_or-flat_map (λ (g : Flood). g.table.places) floods tile k f None (slice_get_within floods
-    tile f there) (subst (λ (g : Flood). k < length g.table.places) (sym is) inside)
-    ∙ ap (λ (g : Flood). get_or g.table.places k None) is
+    cc (get_or-flat_map (λ g. g.table.places) floods tile k f None (slice_get_within floods tile f there)
+    (subst (λ (g : Flood). k < length g.table.places) (sym is) inside))
 
--- In `ends_of`, the height at the number of entry k of a tile's table is entry k of the flood's
--- `ends`.
-pub end_at : (t : Terrain) (c : Cutting) (floods : List Flood) (tile k : ℕ) (f : Flood) →
-    AreFloods t c floods → slice_get floods tile ≡ Some f → k < length f.table.places →
-    get_or (ends_of floods) (first_of floods tile + k) None ≡ get_or f.ends k None
-end_at t c floods tile k f are there inside =
-    let is = get_or_from_slice_get floods tile f f there in
-    let low = slice_get_within floods tile f there in
-    let sizes : (i : ℕ) (d : Flood) → i < length floods →
-    length (get_or floods i d).ends ≡ length (get_or floods i d).table.places = λ i d below.
-    let x = list_there floods i below in
-    let same = get_or_from_slice_get floods i x.0 d x.1 in
-    subst (λ (g : Flood). length g.ends ≡ length g.table.places) (sym same)
-    (are.each i x.0 x.1).ends.size in
-    let own : length f.ends ≡ length f.table.places = (are.each tile f there).ends.size in
-    ap (λ n. get_or (ends_of floods) (n + k) None) (flat_same (λ (g : Flood). g.table.places)
-    (λ (g : Flood). g.ends) floods tile (omega (arith, low)) (λ i d below. sym (sizes i d below)))
-    ∙ get_or-flat_map (λ (g : Flood). g.ends) floods tile k f None low
-    (subst (λ (g : Flood). k < length g.ends) (sym is) (omega (arith, own, inside)))
-    ∙ ap (λ (g : Flood). get_or g.ends k None) is
+module _ {t : Terrain} {c : Cutting} {floods : List Flood} (are : AreFloods t c floods) where
+  ends_size : (i : ℕ) (d : Flood) → i < length floods →
+      length (get_or floods i d).ends ≡ length (get_or floods i d).table.places
+  ends_size i d below =
+      let x = list_there floods i below in
+      rw (get_or_from_slice_get floods i _ d x.1) (are.each i x.0 x.1).ends.size
 
-pub ends_length : (t : Terrain) (c : Cutting) (floods : List Flood) → AreFloods t c floods →
-    length (ends_of floods) ≡ length (places_of floods)
-ends_length t c floods are =
-    let all : take (length floods) floods ≡ floods =
-    take_all (length floods) floods (omega arith) in
-    let sizes : (i : ℕ) (d : Flood) → i < length floods →
-    length (get_or floods i d).ends ≡ length (get_or floods i d).table.places = λ i d below.
-    let x = list_there floods i below in
-    let same = get_or_from_slice_get floods i x.0 d x.1 in
-    subst (λ (g : Flood). length g.ends ≡ length g.table.places) (sym same)
-    (are.each i x.0 x.1).ends.size in
-    ap (λ (z : List Flood). length (ends_of z)) (sym all)
-    ∙ flat_same (λ (g : Flood). g.ends) (λ (g : Flood). g.table.places) floods (length floods)
-    (omega arith) sizes
-    ∙ ap (λ (z : List Flood). length (places_of z)) all
+  -- In `ends_of`, the height at the number of entry k of a tile's table is entry k of the flood's
+  -- `ends`.
+  pub end_at : (tile k : ℕ) (f : Flood) → slice_get floods tile ≡ Some f → k < length f.table.places →
+      get_or (ends_of floods) (first_of floods tile + k) None ≡ get_or f.ends k None
+  end_at tile k f there inside =
+      let is = get_or_from_slice_get floods tile f f there in
+      let low = slice_get_within floods tile f there in
+      cc (
+        flat_same (λ (g : Flood). g.table.places) (λ (g : Flood). g.ends) floods tile (omega (arith, low))
+            (λ i d below. sym (ends_size i d below)),
+        get_or-flat_map (λ (g : Flood). g.ends) floods tile k f None low
+            (subst (λ (g : Flood). k < length g.ends) (sym is) (omega (
+              arith,
+              (are.each tile f there).ends.size,
+              inside,
+            ))),
+      )
 
-pub fit_of : (t : Terrain) (c : Cutting) (floods : List Flood) → AreFloods t c floods → Fit c floods
-fit_of t c floods are = record {
-  count = are.count;
-  bounds = λ tile f e. (are.each tile f e).bounds;
-  sizes = λ tile f e. (are.each tile f e).labels_size
-      ∙ ap (λ (b : Bounds). b.rows * b.cols) (sym (are.each tile f e).bounds);
-  levels = λ tile f e. (are.each tile f e).levels_size
-      ∙ ap (λ (b : Bounds). b.rows * b.cols) (sym (are.each tile f e).bounds);
-}
+  pub ends_length : length (ends_of floods) ≡ length (places_of floods)
+  ends_length =
+      let all : take (length floods) floods ≡ floods = take_all (length floods) floods (omega arith) in
+      cc (flat_same (λ (g : Flood). g.ends) (λ (g : Flood). g.table.places) floods (length floods)
+      (omega arith) ends_size)
+
+  pub fit_of : Fit c floods
+  fit_of = record {
+    count = are.count;
+    bounds = λ tile f e. (are.each tile f e).bounds;
+    sizes = λ tile f e. cc ((are.each tile f e).labels_size, (are.each tile f e).bounds);
+    levels = λ tile f e. cc ((are.each tile f e).levels_size, (are.each tile f e).bounds);
+  }
 
 abbrev pub AreLawful : List Flood → Type 0
 AreLawful floods = (tile : ℕ) (f : Flood) → slice_get floods tile ≡ Some f → IsFlood f
@@ -111,63 +97,54 @@ pub record IsNumbered (c : Cutting) (floods : List Flood) (p : Place) (m : CellL
   pub inside : entry < length flood.table.places
   pub node : first_of floods (tile_of_place c p) + entry ≡ m.node
 
-pub numbered : (c : Cutting) (floods : List Flood) (p : Place) (m : CellLabel) → AreLawful floods →
-    cell_label_among c floods p ≡ Some m → IsNumbered c floods p m
-numbered c floods p m lawful e =
-    let x = labelled c floods p m e in
-    let f = x.flood in
-    let i = index_in f.bounds p in
-    let entry = get_or f.table.indexes i 0 in
-    let at : get_or (labels_by f.table.places f.table.indexes) i None ≡ Some x.label = ap
-    (λ (z : List (Option Place)). get_or z i None) (sym (lawful _ f x.there).labels) ∙ x.label_is in
-    let low : i < length f.table.indexes =
-    omega (
-      arith,
-      some_below (labels_by f.table.places f.table.indexes) i x.label at,
-      length-map f.table.indexes (λ n. get_or f.table.places n None),
-    ) in
-    let listed : get_or f.table.places entry None ≡ Some x.label =
-    sym (get_or-map (λ n. get_or f.table.places n None) f.table.indexes i 0 None low) ∙ at in
-    record {
-      flood = f;
-      entry = entry;
-      label = x.label;
-      there = x.there;
-      level_is = among_is (λ g. level_in g p) floods (tile_of_place c p) f x.there
-          ∙ entry_in-inside f.bounds f.levels p x.inside ∙ x.level_is;
-      label_is = among_is (λ g. label_in g p) floods (tile_of_place c p) f x.there
-          ∙ entry_in-inside f.bounds f.labels p x.inside ∙ x.label_is;
-      listed = listed;
-      inside = some_below f.table.places entry x.label listed;
-      node = x.node_is;
-    }
+module _ (c : Cutting) (floods : List Flood) (p : Place) where
+  pub numbered : {m : CellLabel} → AreLawful floods → cell_label_among c floods p ≡ Some m → IsNumbered c floods p m
+  numbered {m} lawful e =
+      let x = labelled c floods p m e in
+      let f = x.flood in
+      let i = index_in f.bounds p in
+      let entry = get_or f.table.indexes i 0 in
+      let at : get_or (labels_by f.table.places f.table.indexes) i None ≡ Some x.label =
+      cc ((lawful _ f x.there).labels) in
+      let low : i < length f.table.indexes = omega (
+        arith,
+        some_below (labels_by f.table.places f.table.indexes) i at,
+        length-map f.table.indexes (λ n. get_or f.table.places n None),
+      ) in
+      let listed : get_or f.table.places entry None ≡ Some x.label =
+      sym (get_or-map (λ n. get_or f.table.places n None) f.table.indexes i 0 None low) ∙ at in
+      record {
+        flood = f;
+        entry = entry;
+        label = x.label;
+        there = x.there;
+        level_is = among_is (λ g. level_in g p) floods (tile_of_place c p) x.there ∙
+            entry_in-inside f.bounds f.levels p x.inside ∙ x.level_is;
+        label_is = among_is (λ g. label_in g p) floods (tile_of_place c p) x.there ∙
+            entry_in-inside f.bounds f.labels p x.inside ∙ x.label_is;
+        listed = listed;
+        inside = some_below f.table.places entry listed;
+        node = x.node_is;
+      }
 
--- In `places_of`, the place at the number of a cell's label is that label.
-pub number_label : (c : Cutting) (floods : List Flood) (p : Place) (m : CellLabel)
-    (x : IsNumbered c floods p m) → get_or (places_of floods) m.node None ≡ Some x.label
-number_label c floods p m x =
-    ap (λ n. get_or (places_of floods) n None) (sym x.node)
-    ∙ place_at floods (tile_of_place c p) x.entry x.flood x.there x.inside ∙ x.listed
+  -- In `places_of`, the place at the number of a cell's label is that label.
+  pub number_label : {m : CellLabel} (x : IsNumbered c floods p m) →
+      get_or (places_of floods) m.node None ≡ Some x.label
+  number_label x = cc (place_at floods _ _ x.there x.inside)
 
-pub number_below : (c : Cutting) (floods : List Flood) (p : Place) (m : CellLabel) →
-    AreLawful floods → cell_label_among c floods p ≡ Some m → m.node < length (places_of floods)
-number_below c floods p m lawful e = let x = numbered c floods p m lawful e in
-    some_below (places_of floods) m.node x.label (number_label c floods p m x)
+  pub number_below : (m : CellLabel) → AreLawful floods → cell_label_among c floods p ≡ Some m →
+      m.node < length (places_of floods)
+  number_below m lawful e = some_below (places_of floods) m.node (number_label (numbered lawful e))
 
-pub has_cell_label : (c : Cutting) (floods : List Flood) (p : Place)
-    (level : ℤ) (label : Place) (f : Flood) → slice_get floods (tile_of_place c p) ≡ Some f →
-    level_among c floods p ≡ Some level → label_among c floods p ≡ Some label
-    → (node : ℕ) × (cell_label_among c floods p ≡ Some (record { level = level; node = node }))
-has_cell_label c floods p level label f there level_is label_is =
-    let first = first_of floods (tile_of_place c p) in
-    let level_here : level_in f p ≡ Some level =
-    sym (among_is (λ g. level_in g p) floods (tile_of_place c p) f there) ∙ level_is in
-    let label_here : label_in f p ≡ Some label =
-    sym (among_is (λ g. label_in g p) floods (tile_of_place c p) f there) ∙ label_is in
-    let inside = bounds_from_entry f.bounds f.levels p level level_here in (
-      first + get_or f.table.indexes (index_in f.bounds p) 0,
-      sym (cell_label_from_tile c floods (tile_of_place c p) f p there refl)
-          ∙ cond-true _ _ _ (in_bounds_from f.bounds p inside)
-          ∙ cell_label_some _ _ _ level label (sym (entry_in-inside f.bounds f.levels p inside)
-          ∙ level_here) (sym (entry_in-inside f.bounds f.labels p inside) ∙ label_here),
-    )
+  pub has_cell_label : {level : ℤ} {label : Place} {f : Flood} → slice_get floods (tile_of_place c p) ≡ Some f →
+      level_among c floods p ≡ Some level → label_among c floods p ≡ Some label →
+      (node : ℕ) × (cell_label_among c floods p ≡ Some (record { level = level; node = node }))
+  has_cell_label {level} {label} {f} there level_is label_is =
+      let first = first_of floods (tile_of_place c p) in
+      let level_here = sym (among_is _ floods _ there) ∙ level_is in
+      let inside = bounds_from_entry _ _ p level level_here in (
+        first + get_or f.table.indexes (index_in f.bounds p) 0,
+        sym (cell_label_from_tile c floods p there refl) ∙ cond-true _ _ _ (in_bounds_from _ p inside) ∙
+            cell_label_some _ (sym (entry_in-inside _ _ p inside) ∙ level_here)
+            (sym (entry_in-inside _ _ p inside) ∙ (sym (among_is _ floods _ there) ∙ label_is)),
+      )

@@ -1,7 +1,6 @@
 -- Where each cell that rose is held and each level has a path below it, the levels are the filled
 -- heights.
-use Rattle.std.proofs.Common.{◌≡◌, ◌≢◌, ℕ, zero, suc, ◌+◌, ◌-◌, ◌*◌, ◌/◌, ◌%◌, ◌<◌, ◌≤◌, ◌⊎◌, inl, inr, ℤ, ◌≤ℤ◌, List, [], ◌∷◌, length, get_or, Option, None, Some, is_some, true, sym, ap, subst, refl, ◌∙◌, arith}
-use Rattle.std.specs.Ordering.{int_eq}
+use Rattle.std.proofs.Common.{◌≡◌, ◌≢◌, ℕ, zero, suc, ◌+◌, ◌-◌, ◌*◌, ◌/◌, ◌%◌, ◌<◌, ◌≤◌, ◌⊎◌, inl, inr, ℤ, ◌≤ℤ◌, List, [], ◌∷◌, length, get_or, Option, None, Some, is_some, sym, ap, subst, refl, ◌∙◌, arith}
 use native.Mathlib.Numerals.{unary_clauses}
 use Rattle.std.proofs.lemmas.Bool.{cases_Bool, false≢true}
 use Rattle.std.proofs.lemmas.Bool.Decides.{Decides-int_eq}
@@ -27,8 +26,7 @@ use Rattle.fill.specs.Held.{AreAsRead, IsHeld}
 pub around_below : (cols i count : ℕ) → cols < i → i + cols + 1 < count → (way : ℕ) → way < 8 →
     get_or (around_index cols i) way 0 < count
 around_below cols i count above below =
-    eight (λ way. get_or (around_index cols i) way 0 < count)
-    (omega (arith, below)) (omega (arith, below)) (omega (arith, below)) (omega (arith, below))
+    eight _ (omega (arith, below)) (omega (arith, below)) (omega (arith, below)) (omega (arith, below))
     (omega (arith, below)) (omega (arith, below)) (omega (arith, below)) (omega (arith, below))
 
 from_zero : (cols : ℕ) (q : Place) → (q.row - 0) * cols + (q.col - 0) ≡ index_of cols q
@@ -49,8 +47,8 @@ pub record IsSettled (t : Terrain) (levels : List (Option ℤ)) (p : Place) (lev
 module _ (t : Terrain) (levels : List (Option ℤ))
     (each : (p : Place) → IsDataCell t p → (level : ℤ) × IsSettled t levels p level) where
   -- No path leads out below the level of its first cell.
-  least : (rest : List Place) (p : Place) (level : ℤ) → entry_at t.cols t.rows levels p ≡ Some level →
-      IsPath t p rest → level ≤ℤ crest t p rest
+  least : (rest : List Place) (p : Place) (level : ℤ) → entry_at t.cols t.rows levels p ≡ Some level → IsPath t p rest →
+      level ≤ℤ crest t p rest
   least [] p level is path =
       let x = each p (first_is_data t p [] path) in
       elim x.1.held [
@@ -69,22 +67,17 @@ module _ (t : Terrain) (levels : List (Option ℤ))
       ]
 
   pub settled_filled : length levels ≡ t.cols * t.rows →
-      ((p : Place) → IsInside t p → height_at t p ≡ None → entry_at t.cols t.rows levels p ≡ None) →
-      IsFilled t levels
+      ((p : Place) → IsInside t p → height_at t p ≡ None → entry_at t.cols t.rows levels p ≡ None) → IsFilled t levels
   settled_filled size none = record {
     size = size;
-    each = λ p inside. match_of (height_at t p) _ _ (λ lacks. none p inside lacks) (λ h some.
+    each = λ p inside. match_of _ _ _ (none p inside) (λ h some.
         let x = each p (ap is_some some) in
         let least_of : (rest : List Place) → IsPath t p rest → x.0 ≤ℤ crest t p rest =
-        λ rest path. least rest p x.0 x.1.entry path in (
+        λ rest path. least rest p _ x.1.entry path in (
           x.0,
           x.1.entry,
           record {
-            reached = (
-              x.1.low.0,
-              x.1.low.1,
-              between _ _ x.1.low.2 (least_of x.1.low.0 x.1.low.1),
-            );
+            reached = (x.1.low.0, x.1.low.1, between _ _ x.1.low.2 (least_of x.1.low.0 x.1.low.1));
             least = least_of;
           },
         ));
@@ -94,30 +87,30 @@ module _ (t : Terrain) (levels : List (Option ℤ))
 module _ (t : Terrain) (levels : List (Option ℤ)) (size : length levels ≡ t.cols * t.rows)
     (none : (p : Place) → IsInside t p → height_at t p ≡ None → entry_at t.cols t.rows levels p ≡ None)
     (sinks : AreAsRead t.cols t.cells levels t.sinks) where
-  near_value : (p q : Place) → IsInside t p → IsHeld t.cols levels (index_of t.cols p) →
-      Touches p q → p ≢ q → (near : ℤ) × IsInside t q
-      × (entry_at t.cols t.rows levels q ≡ Some near)
-      × ((level : ℤ) → entry_at t.cols t.rows levels p ≡ Some level → level ≤ℤ near)
+  near_value : (p q : Place) → IsInside t p → IsHeld t.cols levels (index_of t.cols p) → Touches p q → p ≢ q →
+      (near : ℤ) × IsInside t q × (entry_at t.cols t.rows levels q ≡ Some near) ×
+      ((level : ℤ) → entry_at t.cols t.rows levels p ≡ Some level → level ≤ℤ near)
   near_value p q inside held touches differ =
       let i = index_of t.cols p in
-      let col : i % t.cols ≡ p.col = mod-mul-add p.row t.cols p.col inside.1 in
-      let row : i / t.cols ≡ p.row = div-mul-add p.row t.cols p.col inside.1 in
-      let above : 1 ≤ p.row = some_row held.after in
+      let col = mod-mul-add p.row t.cols p.col inside.1 in
+      let row = div-mul-add p.row t.cols p.col inside.1 in
       let below : p.row + 1 < t.rows = last_row held.before in
       let way = way_to p q touches differ in
-      let at = on_ways 0 0 t.cols i p (p.row - 1) (p.col - 1) (omega (arith, above))
+      let at =
+      on_ways 0 0 t.cols i p (p.row - 1) (p.col - 1) (omega (arith, some_row held.after))
       (omega (arith, held.left, col)) (omega arith) (omega arith) (simp unary_clauses refl) way.0 way.1 in
       let same = same_Some at.0 q (sym at.1.on ∙ way.2) in
-      let index : index_of t.cols q ≡ get_or (around_index t.cols i) way.0 0 =
-      ap (index_of t.cols) (sym same) ∙ sym (from_zero t.cols at.0) ∙ at.1.index in
       let q_inside : IsInside t q =
       (omega (arith, touches.row_down, below), omega (arith, touches.col_right, held.right, col)) in
       let near = held.around.around way.0 way.1 in (
         near.0,
         q_inside,
-        entry-inside t.cols t.rows levels q q_inside.0 q_inside.1
-            ∙ ap (λ n. get_or levels n None) index ∙ near.1,
-        λ level is. subst (λ z. z ≤ℤ near.0) (same_Some held.around.level level
+        entry-inside t.cols t.rows levels q q_inside.0 q_inside.1 ∙
+            ap (λ n. get_or levels n None)
+            (ap (index_of t.cols) (sym same) ∙ sym (from_zero t.cols at.0) ∙ at.1.index) ∙ near.1,
+        λ level is.
+            subst (λ z. z ≤ℤ near.0)
+            (same_Some held.around.level level
             (sym held.around.is ∙ sym (entry-inside t.cols t.rows levels p inside.0 inside.1) ∙ is)) near.2,
       )
     where
@@ -133,23 +126,22 @@ module _ (t : Terrain) (levels : List (Option ℤ)) (size : length levels ≡ t.
         below n m less = grind (arith, less)
 
   pub settled : (p : Place) (level : ℤ) → IsDataCell t p → entry_at t.cols t.rows levels p ≡ Some level →
-      HasLowPath t level p → (IsHeld t.cols levels (index_of t.cols p)
-      ⊎ (get_or levels (index_of t.cols p) None ≡ get_or t.cells (index_of t.cols p) None)) →
-      IsSettled t levels p level
+      HasLowPath t level p →
+      (IsHeld t.cols levels (index_of t.cols p) ⊎
+      (get_or levels (index_of t.cols p) None ≡ get_or t.cells (index_of t.cols p) None)) → IsSettled t levels p level
   settled p level has is low way = record {
     entry = is;
     low = low;
     held = elim way [
       | inr as_read ↦ inl (own as_read)
-      | inl held ↦ elim (cases_Bool (int_eq (height_of t p) level)) [
-        | inl same ↦ inl ((Decides-int_eq (height_of t p) level).0 same)
+      | inl held ↦ elim (cases_Bool _) [
+        | inl same ↦ inl ((Decides-int_eq _ level).0 same)
         | inr other ↦ inr (record {
           inner = λ end. elim end [
             | inl edge ↦ inner held edge.1
             | inr sink ↦
-                let equal : int_eq (height_of t p) level ≡ true =
-                (Decides-int_eq (height_of t p) level).1 (own (All-contains IsAsRead t.sinks p sinks sink.1)) in
-                absurd (false≢true (sym other ∙ equal))
+                absurd (false≢true (sym other ∙
+                (Decides-int_eq _ level).1 (own (All-contains IsAsRead _ p sinks sink.1))))
           ];
           around = λ q next.
               let near = near_value p q inside held next.touches next.different in
@@ -162,23 +154,22 @@ module _ (t : Terrain) (levels : List (Option ℤ)) (size : length levels ≡ t.
     IsAsRead r = get_or levels (index_of t.cols r) None ≡ get_or t.cells (index_of t.cols r) None
 
     inside : IsInside t p
-    inside = inside_from_entry t.cols t.rows levels p level is
+    inside = inside_from_entry _ _ levels p level is
 
-    own : get_or levels (index_of t.cols p) None ≡ get_or t.cells (index_of t.cols p) None →
-        height_of t p ≡ level
-    own as_read = height_is t p level (entry-inside t.cols t.rows t.cells p inside.0 inside.1
-        ∙ sym as_read ∙ sym (entry-inside t.cols t.rows levels p inside.0 inside.1) ∙ is)
+    own : get_or levels (index_of t.cols p) None ≡ get_or t.cells (index_of t.cols p) None → height_of t p ≡ level
+    own as_read =
+        height_is t p level
+        (entry-inside _ _ _ p inside.0 inside.1 ∙ sym as_read ∙ sym (entry-inside _ _ levels p inside.0 inside.1) ∙ is)
 
     inner : IsHeld t.cols levels (index_of t.cols p) → HasGapAround t p → ⊥
     inner held (inl row) = omega (arith, held.after, row, inside, ap (λ n. n * t.cols) row)
-    inner held (inr (inl col)) =
-        omega (arith, held.left, mod-mul-add p.row t.cols p.col inside.1, col)
+    inner held (inr (inl col)) = omega (arith, held.left, mod-mul-add p.row t.cols _ inside.1, col)
     inner held (inr (inr (q, touches, gap))) = elim (cases_place p q) [
-      | inl same ↦ absurd (cc (has, gap, ap (λ (x : Place). is_some (height_at t x)) same))
+      | inl same ↦ absurd (cc (has, gap, ap (λ x. is_some (height_at t x)) same))
       | inr differ ↦
           let near = near_value p q inside held touches differ in
-          elim (cases_option (height_at t q)) [
-            | inl lacks ↦ none_some (entry_at t.cols t.rows levels q) near.0 (none q near.1 lacks) near.2
+          elim (cases_option _) [
+            | inl lacks ↦ none_some _ _ (none q near.1 lacks) near.2
             | inr some ↦ absurd (cc (gap, ap is_some some.1))
           ]
     ]
@@ -189,4 +180,4 @@ pub run_col : (cols first index : ℕ) → first ≤ index → first % cols + (i
 run_col cols first index from low =
     let at : index ≡ first / cols * cols + (first % cols + (index - first)) =
     omega (arith, div-add-mod' first cols, from) in
-    ap (λ n. n % cols) at ∙ mod-mul-add (first / cols) cols (first % cols + (index - first)) low
+    ap (λ n. n % cols) at ∙ mod-mul-add _ cols _ low

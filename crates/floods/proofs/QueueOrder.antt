@@ -9,10 +9,8 @@ use Rattle.floods.specs.declared.queue.Candidate.{Candidate}
 use Rattle.floods.specs.Flood.{candidate_order}
 
 order_le : (x y : Candidate) → is_lt (candidate_order x y) ≡ false → x.height.0 ≤ℤ y.height.0
-order_le x y e = by_lt_z y.height.0 x.height.0 (λ less. absurd (grind arith)) (λ h. h)
+order_le x y e = by_lt_z _ _ (λ less. absurd (grind arith)) (λ h. h)
 
 pub above_top : (w : Candidate) (others : List Candidate) → IsUpperBound candidate_order w others →
     All (λ x. w.height.0 ≤ℤ x.height.0) others
-above_top w others upper =
-    All-weaker (λ x. is_lt (candidate_order w x) ≡ false) (λ x.
-    w.height.0 ≤ℤ x.height.0) (order_le w) others (All-from_recursion _ others upper)
+above_top w others upper = All-weaker _ _ (order_le w) others (All-from_recursion _ others upper)

@@ -1,4 +1,4 @@
-use Rattle.std.proofs.Common.{rules, refl, subst, ◌≤ℤ◌, ◌∙◌, List, Option}
+use Rattle.std.proofs.Common.{rules, refl, List, Option}
 use mir.Val.{SFits}
 use Rattle.std.proofs.lemmas.Int.{to_z-of_z}
 use Rattle.std.proofs.lemmas.List.Sorted.{All-permutation}
@@ -20,21 +20,17 @@ pub loop-join-preserved : goal.loop-join-preserved
 loop-join-preserved c =
     let fits : SFits height_width c.max-level.result = search rules in
     let i = c.loop-join.invariant in
-    let low : c.loop-join.level ≤ℤ c.max-level.result =
-    subst (λ z. z ≤ℤ c.max-level.result) c.loop-join.level-is c.max-level.ensures.self_bound in
     let above : (t : Terrain) (places : List (Option Place)) → ArePassages t places c.deref-join-items.result.now →
-    AreRings t places c.max-level.result c.loop-join.search.next.items = λ t places all.
-    rings_above t places c.loop-join.level c.max-level.result _ low
-    (subst (λ z. AreRings t places z c.loop-join.search.next.items) c.loop-join.level-is (i.rings t places all)) in
-    rw (to_z-of_z height_width c.max-level.result fits) (record {
-      size = c.take.ensures.size ∙ i.size;
-      rings = λ t places all.
-          (rw (to_z-of_z height_width c.max-level.result fits) at c.take.ensures.rings) t places
+    AreRings t places c.max-level.result c.loop-join.search.next.items =
+    λ t places all.
+    rings_above t places _ c.max-level.result _ (rw c.loop-join.level-is at c.max-level.ensures.self_bound)
+    (rw c.loop-join.level-is at (i.rings t places all)) in
+    rw (to_z-of_z height_width _ fits) (record {
+      size = cc;
+      rings = λ t places all. (rw (to_z-of_z height_width _ fits) at c.take.ensures.rings) t places
           (all c.loop-join.join-index _ c.loop-join-test.true) (above t places all);
-      crests = λ t places all start.
-          (rw (to_z-of_z height_width c.max-level.result fits) at c.take.ensures.crests) t places
-          (all c.loop-join.join-index _ c.loop-join-test.true) (above t places all)
-          (i.crests t places all start);
+      crests = λ t places all start. (rw (to_z-of_z height_width _ fits) at c.take.ensures.crests) t places
+          (all c.loop-join.join-index _ c.loop-join-test.true) (above t places all) (i.crests t places all start);
     })
 
 pub returns-clause-crests : goal.returns-clause-crests

@@ -6,28 +6,16 @@ use Rattle.fill.proofs.filling.crests_of.Goals as goal
 
 pub label_crests-requires : goal.label_crests-requires
 label_crests-requires c =
-    let k = c.args.tiles.now.tiling.now in
-    let floods = c.args.tiles.now.floods.now in
-    omega (
-      arith,
-      ap length c.in_ok-ends.ensures,
-      ends_length c.requires.0 k floods c.requires.1,
-      c.args.tiles.now.numbers.whole,
-    )
+    omega (arith, ap length c.in_ok-ends.ensures, ends_length c.requires.1, c.args.tiles.now.numbers.whole)
 
 pub returns-clause-size : goal.returns-clause-size
 returns-clause-size c =
-    let k = c.args.tiles.now.tiling.now in
-    let floods = c.args.tiles.now.floods.now in
     IfOk-weaker c.label_crests.result _ _
-    (λ v size. sym (size ∙ ap length c.in_ok-ends.ensures ∙ ends_length c.requires.0 k floods c.requires.1))
-    c.label_crests.ensures.size
+    (λ v size. sym (size ∙ ap length c.in_ok-ends.ensures ∙ ends_length c.requires.1)) c.label_crests.ensures.size
 
 pub returns-clause-crests : goal.returns-clause-crests
 returns-clause-crests c =
-    let k = c.args.tiles.now.tiling.now in
-    let floods = c.args.tiles.now.floods.now in
-    IfOk-weaker c.label_crests.result _ _
-    (λ v is t are met. is t _ (c.in_ok-joins.ensures t are met)
-    (ends_leave t k floods are c.in_ok-ends.ends.items c.in_ok-ends.ensures))
+    IfOk-weaker c.label_crests.result _ _ (λ v is t are met.
+    is t _ (c.in_ok-joins.ensures t are met)
+    (ends_leave t c.args.tiles.now.tiling.now c.args.tiles.now.floods.now are c.in_ok-ends.ensures))
     c.label_crests.ensures.crests

@@ -1,39 +1,22 @@
 use Rattle.std.proofs.Common.{ap, ◌∙◌}
 use Rattle.terrain.specs.Raster.{Raster}
-use Rattle.drainage.specs.Filled.{IsFilled}
 use Rattle.fill.proofs.Raised.{filled_stand, filled_grid}
 use Rattle.fill.proofs.filling.filled.Goals as goal
 
 pub with_cells-requires-clause-size : goal.with_cells-requires-clause-size
-with_cells-requires-clause-size g c =
-    let t = c.args.grid.now.terrain in
-    let filled : IsFilled t c.in_ok-cells.cells.items =
-    c.in_ok-cells.ensures.filled in
-    rw c.frame.ensures.value filled.size
+with_cells-requires-clause-size g c = rw c.frame.ensures.value c.in_ok-cells.ensures.filled.size
 
 pub with_cells-requires-clause-heights : goal.with_cells-requires-clause-heights
 with_cells-requires-clause-heights g c =
-    let t = c.args.grid.now.terrain in
-    let filled : IsFilled t c.in_ok-cells.cells.items =
-    c.in_ok-cells.ensures.filled in
-    rw c.frame.ensures.value (filled_stand t c.in_ok-cells.cells.items filled)
+    rw c.frame.ensures.value (filled_stand c.args.grid.now.terrain c.in_ok-cells.ensures.filled)
 
 pub from_grid-requires : goal.from_grid-requires
 from_grid-requires g c =
-    let t = c.args.grid.now.terrain in
-    let filled : IsFilled t c.in_ok-cells.cells.items =
-    c.in_ok-cells.ensures.filled in
-    (filled_grid c.args.grid.now c.in-Ok.filled c.in_ok-cells.cells.items (c.in-Ok.ensures ∙ ap
-    (λ (r : Raster). record r { terrain = record r.terrain { cells = c.in_ok-cells.cells.items } })
-    c.frame.ensures.value) filled).0
+    (filled_grid _ (c.in-Ok.ensures ∙
+    ap (λ (r : Raster). record r { terrain = record r.terrain { cells = c.in_ok-cells.cells.items } })
+    c.frame.ensures.value) c.in_ok-cells.ensures.filled).0
 
 pub returns-clause-filled : goal.returns-clause-filled
-returns-clause-filled g c =
-    let t = c.args.grid.now.terrain in
-    let filled : IsFilled t c.in_ok-cells.cells.items =
-    c.in_ok-cells.ensures.filled in
-    rw c.from_grid.ensures (filled_grid c.args.grid.now c.in-Ok.filled c.in_ok-cells.cells.items
-    (c.in-Ok.ensures ∙ ap (λ (r : Raster). record r {
-      terrain =
-          record r.terrain { cells = c.in_ok-cells.cells.items };
-    }) c.frame.ensures.value) filled).1
+returns-clause-filled g c = rw c.from_grid.ensures (filled_grid _ (c.in-Ok.ensures ∙ ap (λ (r : Raster). record r {
+  terrain = record r.terrain { cells = c.in_ok-cells.cells.items };
+}) c.frame.ensures.value) c.in_ok-cells.ensures.filled).1

@@ -1,7 +1,6 @@
-use Rattle.std.proofs.Common.{◌∷◌, ◌++◌, [], map, ap, sym, ◌∙◌}
+use Rattle.std.proofs.Common.{◌∷◌, ◌++◌, [], ap, sym, ◌∙◌}
 use Rattle.std.proofs.IntoIterSteps.{All-taken}
 use Rattle.std.proofs.lemmas.List.{map-append}
-use Rattle.cell_floods.specs.declared.tile.FloodWithMeetings.{FloodWithMeetings}
 use Rattle.fill.proofs.filling.into_lists.Goals as goal
 
 pub loop-tile-preserved : goal.loop-tile-preserved
@@ -9,28 +8,24 @@ loop-tile-preserved c =
     let x = c.in-Some.tile in
     let past = c.loop-tile.yielded in
     record {
-      floods = c.in_ok-push.ensures.items ∙ ap (λ z. z ++ x.flood ∷ []) c.loop-tile.invariant.floods
-          ∙ sym (map-append (λ (y : FloodWithMeetings). y.flood) past (x ∷ []));
-      meetings = c.in_ok-push-2.ensures.items ∙ ap (λ z. z ++ x.meetings ∷ []) c.loop-tile.invariant.meetings
-          ∙ sym (map-append (λ (y : FloodWithMeetings). y.meetings) past (x ∷ []));
+      floods = c.in_ok-push.ensures.items ∙ ap (λ z. z ++ x.flood ∷ []) c.loop-tile.invariant.floods ∙
+          sym (map-append _ past _);
+      meetings = c.in_ok-push-2.ensures.items ∙ ap (λ z. z ++ x.meetings ∷ []) c.loop-tile.invariant.meetings ∙
+          sym (map-append _ past _);
     }
 
 pub returns-clause-floods : goal.returns-clause-floods
 returns-clause-floods c =
-    let it = c.into_iter-tile-iterator in
-    let all = All-taken it.result c.loop-tile.yielded (
+    let all = All-taken c.into_iter-tile-iterator.result c.loop-tile.yielded (
       c.next.new.self,
       (c.loop-tile.tile-iterator, c.loop-tile.yielded_by, c.in-None.ensures.steps),
     ) in
-    c.loop-tile.invariant.floods
-    ∙ ap (map (λ (y : FloodWithMeetings). y.flood)) (all ∙ it.ensures.into_iter_gives.0)
+    cc
 
 pub returns-clause-meetings : goal.returns-clause-meetings
 returns-clause-meetings c =
-    let it = c.into_iter-tile-iterator in
-    let all = All-taken it.result c.loop-tile.yielded (
+    let all = All-taken c.into_iter-tile-iterator.result c.loop-tile.yielded (
       c.next.new.self,
       (c.loop-tile.tile-iterator, c.loop-tile.yielded_by, c.in-None.ensures.steps),
     ) in
-    c.loop-tile.invariant.meetings
-    ∙ ap (map (λ (y : FloodWithMeetings). y.meetings)) (all ∙ it.ensures.into_iter_gives.0)
+    cc

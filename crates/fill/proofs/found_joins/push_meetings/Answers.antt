@@ -1,5 +1,4 @@
-use Rattle.std.proofs.Common.{◌+◌, rules, ◌∷◌, ◌++◌, [], map, take, get_or, pos, ap, sym, ◌∙◌}
-use mir.Val.{SFits}
+use Rattle.std.proofs.Common.{◌+◌, rules, ◌∷◌, ◌++◌, [], map, get_or, pos, ap, sym, ◌∙◌}
 use Rattle.std.proofs.lemmas.Int.{to_z-of_z}
 use Rattle.terrain.proofs.Heights.{height_width}
 use Rattle.std.proofs.lemmas.List.{append_assoc, map-append, take_all, take_more}
@@ -13,18 +12,12 @@ loop-meeting-preserved c =
     let met = c.args.meetings.now in
     let index = c.loop-meeting.meeting-index in
     let x = get_or met index none in
-    let fits : SFits height_width x.level = search rules in
-    c.in_ok-push.ensures.items
-    ∙ ap (λ h. c.loop-meeting.joins.items
-    ++ record { from = c.args.first + x.from; to = c.args.first + x.to; height = h }
-    ∷ []) (to_z-of_z height_width x.level fits)
-    ∙ ap (λ z. z ++ numbered c.args.first x ∷ []) c.loop-meeting.invariant
-    ∙ append_assoc c.args.joins.now.items (map (numbered c.args.first) (take index met))
-    (numbered c.args.first x ∷ [])
-    ∙ ap (λ z. c.args.joins.now.items ++ z)
-    (sym (map-append (numbered c.args.first) (take index met) (x ∷ []))
-    ∙ ap (map (numbered c.args.first)) (sym (take_more met index none c.loop-meeting-test.true)))
+    c.in_ok-push.ensures.items ∙ ap (λ h. c.loop-meeting.joins.items
+    ++ record { from = c.args.first + x.from; to = c.args.first + x.to; height = h } ∷ [])
+    (to_z-of_z height_width _ (search rules)) ∙ ap (λ z. z ++ numbered c.args.first x ∷ []) c.loop-meeting.invariant ∙
+    append_assoc c.args.joins.now.items _ _ ∙
+    ap (λ z. c.args.joins.now.items ++ z)
+    (sym (map-append _ _ _) ∙ ap (map (numbered _)) (sym (take_more met index none c.loop-meeting-test.true)))
 
 pub returns : goal.returns
-returns c = c.loop-meeting.invariant ∙ ap (λ z. c.args.joins.now.items ++ map (numbered c.args.first) z)
-    (take_all c.loop-meeting.meeting-index c.args.meetings.now c.loop-meeting-test.false)
+returns c = cc (take_all _ _ c.loop-meeting-test.false)

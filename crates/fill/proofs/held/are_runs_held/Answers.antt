@@ -9,11 +9,12 @@ loop-run-preserved c i is =
     let runs = c.args.runs.now in
     let k = c.loop-run.run-index in
     let r = c.run-item.result in
-    let more = take_more runs k r c.loop-run-test.true ∙ ap (λ x. take k runs ++ x ∷ []) (sym c.run-item.is) in
-    elim ((in_pushed IsInRun (take k runs) r i).0 (subst (λ z. IsInRuns z i) more is)) [
+    elim ((in_pushed IsInRun _ r i).0
+    (subst (λ z. IsInRuns z i)
+    (take_more runs k r c.loop-run-test.true ∙ ap (λ x. take k runs ++ x ∷ []) (sym c.run-item.is)) is)) [
       | inl early ↦ c.loop-run.invariant i early
       | inr here ↦ c.if-not-is_run_held.ensures i here
     ]
 
 pub returns : goal.returns
-returns c = rw (take_all c.loop-run.run-index c.args.runs.now c.loop-run-test.false) at c.loop-run.invariant
+returns c = rw (take_all _ _ c.loop-run-test.false) at c.loop-run.invariant

@@ -13,12 +13,12 @@ loop-runs-preserved c i is =
     let tiles = c.args.tiles.now in
     let k = c.loop-runs.runs-index in
     let v = c.runs-item.result in
-    let more = take_more tiles k v c.loop-runs-test.true ∙ ap (λ x. take k tiles ++ x ∷ []) (sym c.runs-item.is) in
-    elim ((in_pushed is_in (take k tiles) v i).0 (subst (λ z. IsInTiles z i) more is)) [
+    elim ((in_pushed is_in _ v i).0
+    (subst (λ z. IsInTiles z i)
+    (take_more tiles k v c.loop-runs-test.true ∙ ap (λ x. take k tiles ++ x ∷ []) (sym c.runs-item.is)) is)) [
       | inl early ↦ c.loop-runs.invariant i early
-      | inr here ↦
-          (rw c.deref.ensures.value at c.if-not-are_runs_held.ensures) i here
+      | inr here ↦ (rw c.deref.ensures.value at c.if-not-are_runs_held.ensures) i here
     ]
 
 pub returns : goal.returns
-returns c = rw (take_all c.loop-runs.runs-index c.args.tiles.now c.loop-runs-test.false) at c.loop-runs.invariant
+returns c = rw (take_all _ _ c.loop-runs-test.false) at c.loop-runs.invariant

@@ -6,11 +6,10 @@ use Rattle.fill.proofs.Firsts.{all_few, all_firsts, few_labels, no_first, one_fi
 use Rattle.fill.proofs.numbers.first_numbers.Goals as goal
 
 pub loop-flood-init : goal.loop-flood-init
-loop-flood-init c =
-    record { firsts = no_first c.args.floods.now _ c.in_ok-firsts.ensures.items; few = omega arith }
+loop-flood-init c = record { firsts = no_first _ _ c.in_ok-firsts.ensures.items; few = omega arith }
 
 pub overflow_cast-count : goal.overflow_cast-count
-overflow_cast-count c = omega (arith, c.loop-flood.invariant.firsts.small)
+overflow_cast-count c = omega arith
 
 pub loop-flood-preserved : goal.loop-flood-preserved
 loop-flood-preserved c =
@@ -22,18 +21,14 @@ loop-flood-preserved c =
     let sum = c.count-count.ensures.value ∙ ap (λ (z : LabelTable). length z.places) c.labels.ensures.value in
     let there : slice_get floods i ≡ Some f =
     slice_get_read floods (length floods) i f refl c.loop-flood-test.true c.flood-item.is in
-    let labels = few_labels c.requires.0 tiling floods i f are there c.labels.ensures.lawful in
-    let few : c.loop-flood.count + length f.table.places ≤ (i + 1)
-    * (tiling.side * tiling.side + 1) = omega (arith, labels, c.loop-flood.invariant.few) in
-    let all =
-    all_few tiling (i + 1) are.lawful (omega (arith, are.count, c.loop-flood-test.true)) in
+    let labels = few_labels tiling floods i f are there c.labels.ensures.lawful in
+    let few : c.loop-flood.count + length f.table.places ≤ (i + 1) * (tiling.side * tiling.side + 1) = omega arith in
+    let all = all_few tiling (i + 1) are.lawful (omega arith) in
     record {
-      firsts = one_first floods i f c.loop-flood.firsts.items _ c.loop-flood.count _
-          c.loop-flood-test.true c.flood-item.is c.labels.ensures.lawful c.in_ok-push.ensures.items
-          (omega (arith, sum)) (omega (arith, sum, few, all)) c.loop-flood.invariant.firsts;
-      few = omega (arith, sum, few);
+      firsts = one_first floods i f _ _ c.loop-flood-test.true c.flood-item.is c.labels.ensures.lawful
+          c.in_ok-push.ensures.items (omega arith) (omega arith) c.loop-flood.invariant.firsts;
+      few = omega arith;
     }
 
 pub returns : goal.returns
-returns c = all_firsts c.args.floods.now c.loop-flood.flood-index _ c.loop-flood.count
-    c.loop-flood.auto.flood-index-end c.loop-flood-test.false c.loop-flood.invariant.firsts
+returns c = all_firsts c.loop-flood.auto.flood-index-end c.loop-flood-test.false c.loop-flood.invariant.firsts

@@ -1,8 +1,5 @@
-use Rattle.std.proofs.Common.{◌∙◌, ap}
 use Rattle.std.proofs.lemmas.List.{take_all}
-use Rattle.fill.specs.Numbers.{ends_of}
 use Rattle.fill.proofs.numbers.label_ends.Goals as goal
 
 pub returns : goal.returns
-returns c = c.loop-flood.invariant
-    ∙ ap ends_of (take_all _ c.args.floods.now c.loop-flood-test.false)
+returns c = cc (take_all _ _ c.loop-flood-test.false)

@@ -1,4 +1,4 @@
-use Rattle.std.proofs.Common.{get_or, pos}
+use Rattle.std.proofs.Common.{pos}
 use Rattle.std.proofs.lemmas.List.{take_all, take_more}
 use Rattle.fill.specs.declared.spill_graph.Join.{Join}
 use Rattle.fill.proofs.Placed.{placed_then, one_placed, not_placed}
@@ -9,22 +9,17 @@ pub loop-join-preserved : goal.loop-join-preserved
 loop-join-preserved c =
     let nodes = c.args.nodes.now in
     let none : Join = record { from = 0; to = 0; height = pos 0 } in
-    let j = get_or c.args.joins.now c.loop-join.join-index none in
     elim c.match-place_join.branch [
       | in-Some+in_ok-push+in_ok-push-2 w ↦
           rw (take_more c.args.joins.now c.loop-join.join-index none c.loop-join-test.true)
-          (placed_then nodes _ _ _ _ _ c.loop-join.invariant
-          (rw
-          (w.placed-is, w.in_ok-push-2.ensures.items, w.in_ok-push.ensures.items, w.turned.ensures)
-          (one_placed nodes j _ c.loop-join.placed.items
-          (rw w.in-Some.is at c.place_join.ensures))))
+          (placed_then nodes _ _ c.loop-join.invariant
+          (rw (w.placed-is, w.in_ok-push-2.ensures.items, w.in_ok-push.ensures.items, w.turned.ensures)
+          (one_placed _ (rw w.in-Some.is at c.place_join.ensures))))
       | in_default w ↦
           rw (take_more c.args.joins.now c.loop-join.join-index none c.loop-join-test.true)
-          (placed_then nodes _ _ _ _ _ c.loop-join.invariant
-          (rw w.placed-is (not_placed nodes j c.loop-join.placed.items
-          (rw w.in_default.is at c.place_join.ensures))))
+          (placed_then nodes _ _ c.loop-join.invariant
+          (rw w.placed-is (not_placed (rw w.in_default.is at c.place_join.ensures))))
     ]
 
 pub returns : goal.returns
-returns c = rw (take_all c.loop-join.join-index c.args.joins.now c.loop-join-test.false)
-    at c.loop-join.invariant
+returns c = rw (take_all _ _ c.loop-join-test.false) at c.loop-join.invariant

@@ -2,6 +2,4 @@ use Rattle.fill.proofs.Raised.{filled_tile}
 use Rattle.fill.proofs.raising.raise.Goals as goal
 
 pub returns-clause-filled : goal.returns-clause-filled
-returns-clause-filled c t floods tile are there least =
-    filled_tile t c.args.tiling.now floods tile c.args.flood.now c.args.levels.now _ are there least
-    c.in_ok-raised_by.ensures
+returns-clause-filled c t floods tile are there least = filled_tile are tile _ there least c.in_ok-raised_by.ensures

@@ -1,7 +1,5 @@
-use Rattle.std.proofs.Common.{◌≡◌, IfSome, ℤ, List, get_or, Option, None, length, ◌<◌, ap, ◌∙◌, arith}
+use Rattle.std.proofs.Common.{IfSome, get_or, None, length, ◌<◌, ap, ◌∙◌, arith}
 use Rattle.std.proofs.lemmas.List.{get_or_default}
-use Rattle.terrain.specs.declared.place.Place.{Place}
-use Rattle.cell_floods.specs.Labels.{LabelTable}
 use Rattle.tiles.specs.Cutting.{IsWithin}
 use Rattle.fill.proofs.CellLabels.{all_within}
 use Rattle.fill.proofs.EndSources.{one_put, all_put}
@@ -11,10 +9,9 @@ use Rattle.fill.proofs.sources.put_ends.Goals.{After-place}
 -- The places of the table lie in the grid.
 inside : (c : goal.After-place) → IfSome c.place.result (IsWithin c.args.tiling.now)
 inside c =
-    let all = all_within c.args.tiling.now c.args.flood.now _ _ c.labels-labels.ensures.labels
-    c.count-index-end.ensures.table c.requires.labels in
-    rw c.place.ensures (all c.loop-index.index None
-    (omega (arith, c.loop-index-test.true, c.count-index-end.ensures.value)))
+    rw c.place.ensures
+    ((all_within c.args.flood.now _ _ c.labels-labels.ensures.labels c.args.tiling.now c.count-index-end.ensures.table
+    c.requires.labels) c.loop-index.index None (omega (arith, c.loop-index-test.true, c.count-index-end.ensures.value)))
 
 pub put_end-requires-clause-label : goal.put_end-requires-clause-label
 put_end-requires-clause-label c = inside (goal.at.put_end-requires-clause-label c).After-place
@@ -23,20 +20,18 @@ pub loop-index-preserved : goal.loop-index-preserved
 loop-index-preserved c =
     let f = c.args.flood.now in
     let i = c.loop-index.index in
-    let places = ap (λ (z : LabelTable). z.places) c.labels-labels.ensures.value in
+    let places = ap (λ z. z.places) c.labels-labels.ensures.value in
     let low : i < length f.ends =
     omega (arith, c.loop-index-test.true, c.count-index-end.ensures.value, ap length places, c.requires.ends) in
-    let end : c.index-ends-index.result ≡ get_or f.ends i None =
-    c.index-ends-index.is ∙ ap (λ (z : List (Option ℤ)). get_or z i c.index-ends-index.result)
-    c.ends-ends.ensures.value ∙ get_or_default f.ends i c.index-ends-index.result None low in
-    rw c.put_end.ensures
-    (one_put c.args.tiling.now f i c.place.result c.index-ends-index.result c.args.heights.now.items
-    c.loop-index.heights.items (c.place.ensures ∙ ap (λ (z : List (Option Place)). get_or z i None) places) end
+    rw c.put_end.ensures (one_put i _ _ (c.place.ensures ∙ ap (λ z. get_or z i None) places) (c.index-ends-index.is ∙
+    ap (λ z. get_or z i c.index-ends-index.result) c.ends-ends.ensures.value ∙ get_or_default _ i _ None low)
     (inside (goal.at.loop-index-preserved c).After-place) c.requires.size c.loop-index.invariant)
 
 pub returns-clause-puts : goal.returns-clause-puts
 returns-clause-puts c =
-    let places = ap (λ (z : LabelTable). z.places) c.labels-labels.ensures.value in
-    all_put c.args.tiling.now c.args.flood.now c.loop-index.index _ _
-    (omega (arith, c.loop-index-test.false, c.count-index-end.ensures.value, ap length places))
-    c.loop-index.invariant
+    all_put (omega (
+      arith,
+      c.loop-index-test.false,
+      c.count-index-end.ensures.value,
+      ap length (ap (λ z. z.places) c.labels-labels.ensures.value),
+    )) c.loop-index.invariant

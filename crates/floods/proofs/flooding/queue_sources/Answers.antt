@@ -1,4 +1,4 @@
-use Rattle.std.proofs.Common.{rules, ◌≡◌, ◌<◌, length, sym, ap, ◌∙◌, refl, Some, None, arith}
+use Rattle.std.proofs.Common.{rules, ◌<◌, length, sym, ap, ◌∙◌, refl, None, arith}
 use mir.Val.{SFits}
 use Rattle.std.proofs.lemmas.Int.{to_z-of_z}
 use Rattle.std.proofs.lemmas.List.{length-set, length-replicate}
@@ -19,30 +19,28 @@ pub loop-node-preserved : goal.loop-node-preserved
 loop-node-preserved g c = elim c.match-source.branch [
   | in-Some+in_ok-put w ↦
       let fits : SFits height_width w.in-Some.height = search rules in
-      let pushed = rw (to_z-of_z height_width w.in-Some.height fits) at w.in_ok-put.ensures.puts in
-      let put = rw (to_z-of_z height_width w.in-Some.height fits) at w.put-in-Some.ensures in
-      let source : g.N.Net.source_height c.args.net.now c.loop-node.node ≡ Some w.in-Some.height =
-      sym c.source.ensures ∙ w.in-Some.is in
-      let count : length c.loop-node.levels ≡ g.N.Net.node_count c.args.net.now =
-      c.loop-node.invariant.size ∙ ap length c.requires ∙ length-replicate _ None in
+      let pushed = rw (to_z-of_z height_width _ fits) at w.in_ok-put.ensures.puts in
+      let put = rw (to_z-of_z height_width _ fits) at w.put-in-Some.ensures in
+      let source = sym c.source.ensures ∙ w.in-Some.is in
       let inside : c.loop-node.node < length c.loop-node.levels =
-      omega (arith, count, c.nodes-node-end.ensures, c.loop-node-test.true) in
+      omega (
+        arith,
+        c.loop-node.invariant.size ∙ ap length c.requires ∙ length-replicate _ None,
+        c.nodes-node-end.ensures,
+        c.loop-node-test.true,
+      ) in
       rw (w.queue-is, w.levels-is) (record {
         order = w.in_ok-put.ensures.order;
-        sources = source_more _ c.loop-node.node w.in-Some.height _ _ _
-            c.loop-node.invariant.sources source refl refl refl pushed;
-        noted = rw put (noted_more _ c.loop-node.node w.in-Some.height _
-            inside c.loop-node.invariant.noted source);
-        size = ap length put ∙ length-set c.loop-node.levels c.loop-node.node _
-            ∙ c.loop-node.invariant.size;
+        sources = source_more _ _ _ _ c.loop-node.invariant.sources source refl refl refl pushed;
+        noted = rw put (noted_more c.loop-node.invariant.noted inside source);
+        size = ap length put ∙ length-set _ _ _ ∙ c.loop-node.invariant.size;
       })
   | in_default w ↦
-      let source : g.N.Net.source_height c.args.net.now c.loop-node.node ≡ None =
-      sym c.source.ensures ∙ w.in_default.is in
+      let source = sym c.source.ensures ∙ w.in_default.is in
       rw (w.queue-is, w.levels-is) (record {
         order = c.loop-node.invariant.order;
         sources = source_passed _ _ _ c.loop-node.invariant.sources source;
-        noted = noted_past _ c.loop-node.node _ c.loop-node.invariant.noted source;
+        noted = noted_past c.loop-node.invariant.noted source;
         size = c.loop-node.invariant.size;
       })
 ]

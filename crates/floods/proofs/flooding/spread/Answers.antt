@@ -1,4 +1,4 @@
-use Rattle.std.proofs.Common.{◌<◌, length, sym, subst}
+use Rattle.std.proofs.Common.{◌<◌, length, subst}
 use Rattle.std.proofs.lemmas.List.Elements.{All-weaker}
 use Rattle.floods.specs.declared.net.Spill.{Spill}
 use Rattle.floods.proofs.flooding.spread.Goals as goal
@@ -9,8 +9,9 @@ queue_neighbours-requires g c =
     record {
       order = c.requires.order;
       noted = c.requires.noted;
-      inside = rw c.as_slice.ensures (All-weaker (λ arc. g.N.Net.joins
-          c.args.net.now c.args.from.now.node arc.to arc.height) (λ (arc : Spill). arc.to
-          < length c.args.labels.now) (λ arc joined. subst (λ n. arc.to < n) (sym c.requires.size)
-          (inside arc.to arc.height joined)) c.in_ok-arcs.arcs.items c.in_ok-arcs.ensures.only);
+      inside = rw c.as_slice.ensures
+          (All-weaker (λ arc. g.N.Net.joins c.args.net.now c.args.from.now.node arc.to arc.height)
+          (λ (arc : Spill). arc.to < length c.args.labels.now)
+          (λ arc joined. subst (λ n. arc.to < n) (cc) (inside arc.to arc.height joined)) c.in_ok-arcs.arcs.items
+          c.in_ok-arcs.ensures.only);
     }

@@ -5,11 +5,8 @@ use Rattle.fill.proofs.cell_labels.NumberedFloods.cell_label.Goals.{then-place-r
 
 pub returns-then-place-rows : goal.returns-then-place-rows
 returns-then-place-rows c =
-    sym (cell_label_outside c.args.self.now.tiling.now c.args.self.now.floods.now
-    c.args.place c.requires c.args.self.now.fit
-    (λ within. elim c.then-place-rows.branch [
-      | then-place-rows-via-then-place-rows w ↦
-          omega (arith, within, w.if-place-rows.true, c.rows.ensures.value)
-      | then-place-rows-via-else-place-rows+then-place-cols w ↦
-          omega (arith, within, w.if-place-cols.true, w.cols.ensures.value)
+    sym (cell_label_outside _ _ c.args.place c.requires c.args.self.now.fit (λ within.
+    elim c.then-place-rows.branch [
+      | then-place-rows-via-then-place-rows w ↦ omega arith
+      | then-place-rows-via-else-place-rows+then-place-cols w ↦ omega arith
     ]))

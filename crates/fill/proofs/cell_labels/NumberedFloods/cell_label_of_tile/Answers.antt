@@ -11,29 +11,23 @@ use Rattle.fill.proofs.cell_labels.NumberedFloods.cell_label_of_tile.Goals as go
 
 pub bounds-self-own : goal.bounds-self-own
 bounds-self-own c =
-    let below = tile_of_place_below c.args.self.now.tiling.now c.args.place c.requires.lawful
-    c.requires.place.0 in
-    omega (arith, below, c.requires.place.1, c.args.self.now.fit.count)
+    let below = tile_of_place_below _ _ c.requires.lawful c.requires.place.0 in
+    omega arith
 
 pub returns-in_err-cell_label : goal.returns-in_err-cell_label
 returns-in_err-cell_label c =
     let t = c.args.self.now.tiling.now in
     let floods = c.args.self.now.floods.now in
     let own = c.args.own in
-    let f = get_or floods own c.index-self-own.result in
-    let below = tile_of_place_below t c.args.place c.requires.lawful c.requires.place.0 in
-    let there = slice_get-get_or floods own c.index-self-own.result
-    (omega (arith, below, c.requires.place.1, c.args.self.now.fit.count)) in
-    c.from_residual.ensures ∙ sym (among_shift t floods own f c.args.place there c.requires.place.1
-    ∙ ap (option_map (shift (first_of floods own)))
-    (sym c.cell_label_in.ensures ∙ c.in_err-cell_label.was))
+    let below = tile_of_place_below t _ c.requires.lawful c.requires.place.0 in
+    let there = slice_get-get_or floods own _ (omega arith) in
+    c.from_residual.ensures ∙ sym (among_shift t floods own _ _ there c.requires.place.1 ∙
+    ap (option_map (shift (first_of floods own))) (sym c.cell_label_in.ensures ∙ c.in_err-cell_label.was))
 
 pub bounds-self-own-2 : goal.bounds-self-own-2
 bounds-self-own-2 c =
-    let below = tile_of_place_below c.args.self.now.tiling.now c.args.place c.requires.lawful
-    c.requires.place.0 in
-    omega
-    (arith, below, c.requires.place.1, c.args.self.now.fit.count, c.args.self.now.numbers.size)
+    let below = tile_of_place_below _ _ c.requires.lawful c.requires.place.0 in
+    omega arith
 
 pub overflow_add-result : goal.overflow_add-result
 overflow_add-result c =
@@ -41,13 +35,10 @@ overflow_add-result c =
     let floods = c.args.self.now.floods.now in
     let own = c.args.own in
     let f = get_or floods own c.index-self-own.result in
-    let below = tile_of_place_below c.args.self.now.tiling.now c.args.place c.requires.lawful
-    c.requires.place.0 in
-    let low : own < length floods =
-    omega (arith, below, c.requires.place.1, c.args.self.now.fit.count) in
-    let there = slice_get-get_or floods own c.index-self-own.result low in
-    let inside = index_inside f c.args.place c.in_ok-cell_label.cell_label
-    (numbers.lawful own f there) (sym c.cell_label_in.ensures ∙ c.in_ok-cell_label.was) in
+    let below = tile_of_place_below _ _ c.requires.lawful c.requires.place.0 in
+    let low : own < length floods = omega arith in
+    let there = slice_get-get_or floods own _ low in
+    let inside = index_inside f _ (numbers.lawful own f there) (sym c.cell_label_in.ensures ∙ c.in_ok-cell_label.was) in
     omega (arith, numbers.few own f there, numbers.each own low, inside)
 
 pub returns : goal.returns
@@ -57,12 +48,11 @@ returns c =
     let own = c.args.own in
     let f = get_or floods own c.index-self-own.result in
     let m = c.in_ok-cell_label.cell_label in
-    let below = tile_of_place_below t c.args.place c.requires.lawful c.requires.place.0 in
-    let low : own < length floods =
-    omega (arith, below, c.requires.place.1, c.args.self.now.fit.count) in
-    let there = slice_get-get_or floods own c.index-self-own.result low in
+    let below = tile_of_place_below t _ c.requires.lawful c.requires.place.0 in
+    let low : own < length floods = omega arith in
+    let there = slice_get-get_or floods own _ low in
     let fits : SFits height_width m.level = search rules in
-    let known = among_shift t floods own f c.args.place there c.requires.place.1
-    ∙ ap (option_map (shift (first_of floods own)))
-    (sym c.cell_label_in.ensures ∙ c.in_ok-cell_label.was) in
-    rw (to_z-of_z height_width m.level fits, c.args.self.now.numbers.each own low) (sym known)
+    let known =
+    among_shift t floods own f _ there c.requires.place.1 ∙
+    ap (option_map (shift (first_of floods own))) (sym c.cell_label_in.ensures ∙ c.in_ok-cell_label.was) in
+    rw (to_z-of_z height_width _ fits, c.args.self.now.numbers.each own low) (sym known)

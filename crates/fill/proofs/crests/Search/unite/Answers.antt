@@ -5,6 +5,4 @@ use Rattle.fill.proofs.crests.Search.unite.Goals as goal
 pub returns-then-unite-clause-rings : goal.returns-then-unite-clause-rings
 returns-then-unite-clause-rings c t places now low pass rings =
     rw c.swap.ensures.items
-    (united_rings t places now c.args.self.now.next.items c.args.join pass low
-    (omega (arith, c.if-from-len.false, c.len.ensures)) (omega (arith, c.if-to-len.false, c.len-else-from-len.ensures))
-    rings)
+    (united_rings t places now c.args.join pass low c.args.self.now.next.items (omega arith) (omega arith) rings)

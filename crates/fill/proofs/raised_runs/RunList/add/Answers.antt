@@ -1,4 +1,3 @@
-use Rattle.fill.specs.RaisedRuns.{runs_of}
 use Rattle.fill.proofs.RaisedRuns.{longer_run, new_run}
 use Rattle.fill.proofs.raised_runs.RunList.add.Goals as goal
 
@@ -6,7 +5,7 @@ pub returns-then-goes_on_with : goal.returns-then-goes_on_with
 returns-then-goes_on_with c =
     let l = c.args.self.now in
     let is = c.goes_on_with.ensures.0 c.if-goes_on_with.true in
-    longer_run l.ended.items l.last c.args.index c.args.cell is.0 is.1
+    longer_run _ _ _ is.0 is.1
 
 pub returns : goal.returns
-returns c = rw c.in_ok-push.ensures.items (new_run (runs_of c.args.self.now) c.args.index c.args.cell)
+returns c = rw c.in_ok-push.ensures.items (new_run _ _ _)

@@ -1,14 +1,11 @@
-use Rattle.std.proofs.Common.{rules, ◌∙◌, length, sym, ap, arith}
-use Rattle.std.specs.Ordering.{int_eq}
+use Rattle.std.proofs.Common.{rules, length, ap, arith}
 use Rattle.std.proofs.lemmas.Int.{to_z-of_z}
 use Rattle.terrain.proofs.Heights.{height_width}
-use Rattle.floods.specs.Notes.{lack}
 use Rattle.floods.proofs.HeightLists.{length-where, where-set, where-flagged}
 use Rattle.floods.proofs.heights.HeightList.put.Goals as goal
 
 pub index_mut-requires : goal.index_mut-requires
-index_mut-requires c =
-    omega (arith, c.requires, ap length c.self.view_is, length-where _ _ c.self.inside.size)
+index_mut-requires c = omega (arith, c.requires, ap length c.self.view_is, length-where _ _ c.self.inside.size)
 
 pub index_mut-requires-then-is_lack : goal.index_mut-requires-then-is_lack
 index_mut-requires-then-is_lack c = omega (
@@ -22,10 +19,9 @@ index_mut-requires-then-is_lack c = omega (
 pub returns-then-is_lack : goal.returns-then-is_lack
 returns-then-is_lack c =
     rw (to_z-of_z height_width c.args.height (search rules), ← c.self.view_is)
-    (where-flagged _ _ c.args.index c.args.height c.self.inside.size)
+    (where-flagged c.args.height _ _ c.args.index c.self.inside.size)
 
 pub returns-else-is_lack : goal.returns-else-is_lack
 returns-else-is_lack c =
     let height = to_z-of_z height_width c.args.height (search rules) in
-    rw (height, ← c.self.view_is) (where-set _ _ c.args.index c.args.height c.self.inside.size
-    (sym (c.is_lack.ensures ∙ ap (λ z. int_eq z lack) height) ∙ c.if-is_lack.false))
+    rw (height, ← c.self.view_is) (where-set c.args.height _ _ c.args.index c.self.inside.size (cc))
