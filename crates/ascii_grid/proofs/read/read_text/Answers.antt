@@ -1,12 +1,11 @@
 use Rattle.std.proofs.Common.{◌∙◌, []}
-use Rattle.std.proofs.lemmas.Result.{err_from_is_err_and}
 use Rattle.ascii_grid.proofs.Feeding.{whole_refusal}
+use Rattle.ascii_grid.proofs.Exits.{err_is}
 use Rattle.ascii_grid.proofs.read.read_text.Goals as goal
 
 pub returns-in_err-feed-clause-fault : goal.returns-in_err-feed-clause-fault
 returns-in_err-feed-clause-fault c =
-    let p = err_from_is_err_and c.from_residual.result c.from_residual.ensures.1 in
-    rw (p.1, p.2) (rw c.new-reader.ensures.scale at (whole_refusal _ c.args.bytes.now _
+    rw (err_is c.from_residual.ensures.1) (rw c.new-reader.ensures.scale at (whole_refusal _ c.args.bytes.now _
     (c.in_err-feed.ensures.err [] c.new-reader.ensures.taken)))
 
 pub returns-clause-grid : goal.returns-clause-grid

@@ -1,19 +1,18 @@
 use Rattle.std.proofs.Common.{arith, ap, ◌≡◌, ◌∙◌, ◌++◌, ◌+◌, ◌-◌, length, drop}
-use Rattle.std.proofs.lemmas.Result.{err_from_is_err_and}
 use Rattle.ascii_grid.specs.Text.{row_text}
 use Rattle.ascii_grid.proofs.Writing.{WritesByPage-more, WritesByPage-failed}
 use Rattle.ascii_grid.proofs.RowText.{spaced_more, row_split, row_last}
+use Rattle.ascii_grid.proofs.Exits.{err_is}
 use Rattle.ascii_grid.proofs.write.write_row.Goals as goal
 
 pub returns-in_err-write_cell : goal.returns-in_err-write_cell
 returns-in_err-write_cell g c =
-    let p = err_from_is_err_and c.from_residual.result c.from_residual.ensures.1 in
     let more = spaced_more (g.E.MapCell.text c.args.scale c.args.nodata.now) c.args.cells.now
     c.index-cells-index.result c.loop-index.index (omega arith) c.index-cells-index.is in
     let whole = row_split (g.E.MapCell.text c.args.scale c.args.nodata.now) c.args.cells.now
     (c.loop-index.index + 1) (omega arith) ∙ ap (λ z. z ++ row_text (g.E.MapCell.text c.args.scale
     c.args.nodata.now) (drop (c.loop-index.index + 1) c.args.cells.now)) more in
-    rw (p.1, p.2) (WritesByPage-failed _ c.args.out.now c.write_cell.new.out c.args.page.now
+    rw (err_is c.from_residual.ensures.1) (WritesByPage-failed _ c.args.out.now c.write_cell.new.out c.args.page.now
     c.write_cell.new.page c.write_cell.new.page _ _ _ _ whole (WritesByPage-more _ c.args.out.now
     c.loop-index.out c.write_cell.new.out c.args.page.now c.loop-index.page c.write_cell.new.page _
     _ _ _ c.loop-index.invariant c.in_err-write_cell.ensures))

@@ -1,6 +1,5 @@
 use Rattle.std.proofs.Common.{ap, refl, sym, ◌∙◌, unwrap_or}
 use Rattle.std.specs.Prelude.{codes}
-use Rattle.std.proofs.lemmas.Result.{err_from_is_err_and}
 use Rattle.terrain.specs.Decimal.{scaled_value}
 use Rattle.ascii_grid.specs.Slots.{missing_of, wanted_of}
 use Rattle.ascii_grid.specs.declared.header.Header.{Header}
@@ -8,12 +7,12 @@ use Rattle.ascii_grid.specs.Header.{missing_fault}
 use Rattle.ascii_grid.specs.Reading.{flat}
 use Rattle.ascii_grid.proofs.AddedWords.{reported, not_memory_missing}
 use Rattle.ascii_grid.proofs.Judging.{missing_of-slots_of, wanted_of-slots_of, pairs-flat}
+use Rattle.ascii_grid.proofs.Exits.{err_is}
 use Rattle.ascii_grid.proofs.builder.GridBuilder.begin_heights.Goals as goal
 
 pub returns-in_err-self-clause-none : goal.returns-in_err-self-clause-none
 returns-in_err-self-clause-none c = λ ps k.
-    let p = err_from_is_err_and c.from_residual.result c.from_residual.ensures.1 in
-    rw (p.1, p.2) (reported _ (missing_fault (flat ps)) _ (not_memory_missing (flat ps))
+    rw (err_is c.from_residual.ensures.1) (reported _ (missing_fault (flat ps)) _ (not_memory_missing (flat ps))
     (sym (missing_of-slots_of ps) ∙ ap missing_of (sym k.slots) ∙ c.in_err-self.ensures.err))
 
 pub returns-in_default-clause-none : goal.returns-in_default-clause-none

@@ -1,8 +1,8 @@
 use Rattle.std.proofs.Common.{arith, ◌≡◌, length, ap, sym, ◌∙◌, Some}
 use Rattle.std.proofs.lemmas.Bool.{cond-true, cond-false, lt-ltb, le-ltb}
-use Rattle.std.proofs.lemmas.Result.{err_from_is_err_and}
 use Rattle.ascii_grid.specs.declared.fault.GridFault.TheVariants.{TooFew}
 use Rattle.ascii_grid.proofs.Spelled.{whole-grid, lawful-grid, spelled-grid, end-value, end-key, end-none, end-heights}
+use Rattle.ascii_grid.proofs.Exits.{err_is}
 use Rattle.ascii_grid.proofs.builder.GridBuilder.finish.Goals as goal
 
 pub into_grid-requires-clause-whole : goal.into_grid-requires-clause-whole
@@ -19,8 +19,7 @@ returns-in-AtValue c = λ ws h. end-value _ ws _ _ h c.in-AtValue.is
 
 pub returns-in_err-begin_heights-in-AtKey : goal.returns-in_err-begin_heights-in-AtKey
 returns-in_err-begin_heights-in-AtKey c = λ ws h.
-    let p = err_from_is_err_and c.from_residual.result c.from_residual.ensures.1 in
-    rw (p.1, p.2) (end-key _ ws _ h c.in-AtKey.is
+    rw (err_is c.from_residual.ensures.1) (end-key _ ws _ h c.in-AtKey.is
     (c.in_err-begin_heights-in-AtKey.ensures.none h.pairs h.header))
 
 pub returns-in_ok-begin_heights-in-AtKey : goal.returns-in_ok-begin_heights-in-AtKey

@@ -1,16 +1,15 @@
 use Rattle.std.proofs.Common.{rules, ◌∙◌, refl, subst, ◌++◌}
 use Rattle.std.proofs.lemmas.List.{take_all}
-use Rattle.std.proofs.lemmas.Result.{err_from_is_err_and}
 use Rattle.ascii_grid.specs.Reading.{HasWords}
 use Rattle.ascii_grid.proofs.Ending.{taken_words, taken_byte, fault_at}
+use Rattle.ascii_grid.proofs.Exits.{err_is}
 use Rattle.ascii_grid.proofs.tokenizer.Tokenizer.take_all.Goals as goal
 
 pub returns-in_err-take-clause-words : goal.returns-in_err-take-clause-words
 returns-in_err-take-clause-words c = λ text h.
-    let p = err_from_is_err_and c.from_residual.result c.from_residual.ensures.1 in
     let first = c.take_heights-at.ensures in
     let before = c.loop-at.invariant in
-    rw (p.1, p.2) (fault_at _ _ text c.args.bytes.now _ _ _ (before.scale ∙ first.scale)
+    rw (err_is c.from_residual.ensures.1) (fault_at _ _ text c.args.bytes.now _ _ _ (before.scale ∙ first.scale)
     c.loop-at-test.true refl (c.in_err-take.ensures.words _
     (taken_words _ _ _ text c.args.bytes.now _ _ first before h)))
 
