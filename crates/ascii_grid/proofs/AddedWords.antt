@@ -27,14 +27,14 @@ use Rattle.ascii_grid.specs.declared.fault.Key.TheVariants.{Ncols}
 
 pub at_key : (j : GridBuilder) (ws : List Word) (h : HasAdded j ws) → j.expected ≡ AtKey →
     ws ≡ flat h.pairs
-at_key j ws h e = h.words ∙ ap (λ z. flat h.pairs ++ z) (rw e at h.at) ∙ append-nil (flat h.pairs)
+at_key j ws h e = h.words ∙ rw (rw e at h.at) (append-nil _)
 
 pub at_value : (j : GridBuilder) (ws : List Word) (h : HasAdded j ws) (slot : Key)
     (centre : Bool) → j.expected ≡ AtValue slot centre → (k : Word) × (ws ≡ flat h.pairs ++ k ∷ [])
     × AwaitsValue h.pairs k slot centre
 at_value j ws h slot centre e =
     let there = rw e at h.at in
-    (there.0, h.words ∙ ap (λ z. flat h.pairs ++ z) there.1, there.2)
+    (there.0, h.words ∙ rw there.1 refl, there.2)
 
 pub at_heights : (j : GridBuilder) (ws : List Word) (h : HasAdded j ws) → j.expected ≡ AtHeights →
     HasBegun h.rest × HasReadHeights j h.pairs h.rest
@@ -43,14 +43,14 @@ at_heights j ws h e = subst (FitsExpected j h.pairs h.rest) e h.at
 -- ---- a key
 
 pub same_header : (h h' : Header) (ps : Pairs) → h' ≡ h → IsHeaderOf h ps → IsHeaderOf h' ps
-same_header h h' ps e k = record { keys = k.keys; faultless = k.faultless; slots = e ∙ k.slots }
+same_header h h' ps e k = assumption (e ∙ k.slots)
 
 pub is_short : (w : Word) → length w ≤ 64 → is_long w ≡ false
-is_short w h = le-ltb 64 (length w) h
+is_short w h = le-ltb 64 _ h
 
 repeats : (slot : Key) (ps : Pairs) →
     list_any (fills slot) (keys_before ps []) ≡ is_given (slots_of ps) slot
-repeats slot ps = list_any-keys_before (fills slot) ps [] ∙ or-false _
+repeats slot ps = list_any-keys_before _ ps _ ∙ or-false _
     ∙ sym (is_given-slots_of slot ps)
 
 abbrev fault_of_slot : Pairs → Option Key → Option GridFault
@@ -59,13 +59,13 @@ fault_of_slot ps o = option_map_or (λ slot. cond (list_any (fills slot) (keys_b
 
 key_fault-short : (ps : Pairs) (k : Word) → length k ≤ 64 →
     key_fault (keys_before ps []) k ≡ fault_of_slot ps (slot_of k)
-key_fault-short ps k h = rw (is_short k h) refl
+key_fault-short ps k h = rw is_short
 
 slot_fault : (ps : Pairs) (o : Option Key) (f : GridFault) → MatchOption o (f ≡ UnknownKey) (λ slot.
     (is_given (slots_of ps) slot ≡ true) × (f ≡ RepeatedKey slot)) → fault_of_slot ps o ≡ Some f
 slot_fault ps None f e = ap Some (sym e)
 slot_fault ps (Some slot) f e =
-    ap (λ b. cond b (Some (RepeatedKey slot)) None) (repeats slot ps ∙ e.0) ∙ ap Some (sym e.1)
+    rw (repeats slot ps ∙ e.0) (ap Some (sym e.1))
 
 pub judged-key : (j j' : GridBuilder) (ws : List Word) (w : Word) (slot : Key) → HasAdded j ws →
     j.expected ≡ AtKey → length w ≤ 64 → begins_with_letter w ≡ true → slot_of w ≡ Some slot →
@@ -73,22 +73,16 @@ pub judged-key : (j j' : GridBuilder) (ws : List Word) (w : Word) (slot : Key) �
     j'.expected ≡ AtValue slot (is_centre w) →
     HasAdded j' (ws ++ w ∷ [])
 judged-key j j' ws w slot h e short letter s free same expected =
-    let none : is_given (slots_of h.pairs) slot ≡ false =
+    let none =
     ap (λ x. is_given x slot) (sym h.header.slots) ∙ free in
     let awaits : AwaitsValue h.pairs w slot (is_centre w) =
-    record {
-      letter = letter;
-      faultless = key_fault-short h.pairs w short ∙ ap (fault_of_slot h.pairs) s
-          ∙ ap (λ b. cond b (Some (RepeatedKey slot)) None) (repeats slot h.pairs ∙ none);
-      key_is = s;
-      named = refl;
-      free = none;
-    } in
+    assumption (key_fault-short h.pairs w short ∙ ap (fault_of_slot h.pairs) s
+          ∙ ap (λ b. cond b (Some (RepeatedKey slot)) None) (repeats slot h.pairs ∙ none)) in
     record {
       pairs = h.pairs;
       rest = w ∷ [];
-      words = ap (λ z. z ++ w ∷ []) (at_key j ws h e);
-      header = same_header j.header j'.header h.pairs same h.header;
+      words = rw (at_key j ws h e) refl;
+      header = same_header _ _ _ same h.header;
       at = rw expected (w, refl, awaits);
     }
 
@@ -111,7 +105,7 @@ fault-key j ws w f h e short letter m =
 
 value_fault-short : (k v : Word) (slot : Key) → length v ≤ 64 → slot_of k ≡ Some slot →
     value_fault k v ≡ cond (is_value slot v) None (Some (bad_value slot))
-value_fault-short k v slot h s = rw (is_short v h, s) refl
+value_fault-short k v slot h s = rw (is_short, s)
 
 pub judged-value : (j j' : GridBuilder) (ws : List Word) (v : Word) (slot : Key) (centre : Bool) →
     HasAdded j ws → j.expected ≡ AtValue slot centre → length v ≤ 64 → is_value slot v ≡ true →
@@ -166,7 +160,7 @@ pub words-after : (h : Header) (ps : Pairs) (hs : List Word) → IsHeaderOf h ps
 words-after h ps hs k begun =
     let both = words-flat ps hs k.keys in
     let rest = words-begun hs begun in
-    (both.0 ∙ ap (λ z. flat ps ++ z) rest.0 ∙ append-nil (flat ps), both.1 ∙ rest.1)
+    (both.0 ∙ rw rest.0 (append-nil _), both.1 ∙ rest.1)
 
 pub paired : (ps : Pairs) → key_left (flat ps) ≡ None
 paired ps = ap key_left (sym (append-nil (flat ps))) ∙ key_left-flat ps []
@@ -179,17 +173,17 @@ pub asks : (h : Header) (ps : Pairs) (hs : List Word) → IsHeaderOf h ps →
 asks h ps hs k begun whole first =
     let are = words-after h ps hs k begun in
     record {
-      faultless = ap (header_fault []) are.0 ∙ k.faultless;
+      faultless = rw are.0 k.faultless;
       paired = ap key_left are.0 ∙ paired ps;
       given = ap missing_fault are.0 ∙ whole;
-      first = ap (λ z. list_any is_long (take 1 z)) are.1 ∙ first;
+      first = rw are.1 first;
     }
 
 first_short : (d : ℕ) (header hs : List Word) (w : Word) → length w ≤ 64 →
     heights_fault d header 0 hs ≡ None → list_any is_long (take 1 (hs ++ w ∷ [])) ≡ false
-first_short d header [] w short none = rw (is_short w short) refl
+first_short d header [] w short none = rw is_short
 first_short d header (x ∷ hs) w short none =
-    rw (then_none (is_long x) TooLong _ (or_none (height_fault d header 0 x) _ none).0).0 refl
+    rw (then_none (is_long x) TooLong _ (or_none _ _ none).0).0
 
 -- let the words `ws` be the header of `j` and heights `hs`, and `j'` be among the heights of this
 -- header. If `hs ++ more` have no fault and `j'` stores their cells, it has read `ws` and `more`
@@ -199,8 +193,8 @@ pub judged-heights : (j j' : GridBuilder) (ws : List Word) (ps : Pairs) (hs more
 judged-heights j j' ws ps hs more k e begun heights same expected = record {
   pairs = ps;
   rest = hs ++ more;
-  words = ap (λ z. z ++ more) e ∙ append_assoc (flat ps) hs more;
-  header = same_header j.header j'.header ps same k;
+  words = rw e (append_assoc _ hs more);
+  header = same_header _ _ ps same k;
   at = subst (FitsExpected j' ps (hs ++ more)) (sym expected) (begun, heights);
 }
 
@@ -221,11 +215,11 @@ pub memory-height : (j : GridBuilder) (ws : List Word) (ps : Pairs) (hs : List W
     missing_fault (flat ps) ≡ None → heights_fault j.scale (flat ps) 0 hs ≡ None → length w ≤ 64 →
     AsksAtHeight (ws ++ w ∷ [])
 memory-height j ws ps hs w h k e begun whole none short =
-    let words : ws ++ w ∷ [] ≡ flat ps ++ (hs ++ w ∷ []) = ap (λ z. z ++ w ∷ []) e
-    ∙ append_assoc (flat ps) hs (w ∷ []) in
+    let words = ap (λ z. z ++ w ∷ []) e
+    ∙ append_assoc _ hs _ in
     rw words (
-      asks h ps (hs ++ w ∷ []) k begun whole (first_short j.scale (flat ps) hs w short none),
-      rw ((words-after h ps (hs ++ w ∷ []) k begun).1) (omega (arith, length-append hs (w ∷ []))),
+      asks h ps _ k begun whole (first_short j.scale (flat ps) hs w short none),
+      rw ((words-after h ps _ k begun).1) (omega (arith, length-append hs (w ∷ []))),
     )
 
 -- ---- words without a fault, the count of cells, and faults that are not `Memory`
@@ -234,11 +228,11 @@ pub height_fault-none : (d : ℕ) (header : List Word) (place : ℕ) (w : Word) 
     length w ≤ 64 → missing_fault header ≡ None → place < cells_wanted header →
     is_cell d (nodata_for header) w ≡ true → height_fault d header place w ≡ None
 height_fault-none d header place w short whole room ok =
-    rw (is_short w short, whole, lt-ltb place (cells_wanted header) room, ok) refl
+    rw (is_short, whole, lt-ltb, ok)
 
 pub place_of : (j : GridBuilder) (ps : Pairs) (hs : List Word) → HasReadHeights j ps hs →
     length j.cells.items ≡ length hs
-place_of j ps hs h = ap length h.cells ∙ length-map hs (spelled_cell j.scale j.nodata)
+place_of j ps hs h = ap length h.cells ∙ length-map hs _
 
 -- after the cell of one more height is added, the height has been read
 pub HasReadHeights-push : (j j' : GridBuilder) (ps : Pairs) (hs : List Word) (w : Word)
@@ -295,8 +289,8 @@ not_memory_bad_value slot = refl
 -- the fault of an unknown or a repeated key is not `Memory`
 pub not_memory_slot : (o : Option Key) (given : Key → Type 0) (f : GridFault) → MatchOption o (f
     ≡ UnknownKey) (λ slot. given slot × (f ≡ RepeatedKey slot)) → is_memory (Some f) ≡ false
-not_memory_slot None given f e = ap (λ g. is_memory (Some g)) e
-not_memory_slot (Some slot) given f e = ap (λ g. is_memory (Some g)) e.1
+not_memory_slot None given f e = rw e refl
+not_memory_slot (Some slot) given f e = rw e.1 refl
 
 not_memory_missing_slot : (o : Option Key) → is_memory (option_map MissingKey o) ≡ false
 not_memory_missing_slot None = refl
@@ -309,7 +303,7 @@ not_memory_missing header = not_memory_missing_slot _
 
 pub reported : (may_lack : Type 0) (o : Option GridFault) (f : GridFault) → is_memory o ≡ false →
     o ≡ Some f → IsReported may_lack o f
-reported may_lack o Memory m h = absurd (let k : is_memory o ≡ true = ap is_memory h in cc)
+reported may_lack o Memory m h = absurd cc
 reported may_lack o f m h = h
 
 -- a fault that may be reported by `may_lack` and `o` may be reported by `may_lack'` and `o'`, if
@@ -323,7 +317,7 @@ reported_further may_lack may_lack' o o' f lacks more h = more f h
 pub word_fault : (d : ℕ) (ws : List Word) (f : GridFault) → is_memory (Some f) ≡ false →
     words_fault d ws ≡ Some f → IsWordFault d ws f
 word_fault d ws f other h =
-    reported (AsksAtHeight ws) (words_fault d ws) f (ap is_memory h ∙ other) h
+    reported _ _ f (ap is_memory h ∙ other) h
 
 pub long_fault : (j : GridBuilder) (ws : List Word) (w : Word) → HasAdded j ws → 64 < length w →
     words_fault j.scale (ws ++ w ∷ []) ≡ Some TooLong

@@ -17,17 +17,15 @@ use Rattle.terrain.specs.Words.{is_word}
 use Rattle.terrain.specs.Decimal.{number_of, are_digits}
 
 pub div_pow : (n k : ℕ) → n / 10 / 10 ^ k ≡ n / 10 ^ (suc k)
-div_pow n k = div-div-eq-div-mul n 10 (10 ^ k) ∙ ap (λ m. n / m) (sym (pow-succ' 10 k))
+div_pow n k = div-div-eq-div-mul n 10 _ ∙ rw (← pow-succ') refl
 
 pub div_pow_last : (n k : ℕ) → n / 10 ^ k / 10 ≡ n / 10 ^ (k + 1)
-div_pow_last n k = div-div-eq-div-mul n (10 ^ k) 10 ∙ ap (λ m.
-    n / m) (let e : 10 ^ k * 10 ≡ 10 ^ (k + 1) = rw (add-one, pow-succ') (omega arith) in e)
+div_pow_last n k = div-div-eq-div-mul n _ 10 ∙ rw (let e : 10 ^ k * 10 ≡ 10 ^ (k + 1) = rw (add-one, pow-succ') (omega arith) in e) refl
 
 pub last_digits-front : (k n : ℕ) → last_digits (suc k) n ≡ (48 + n / 10 ^ k % 10) ∷ last_digits k n
 last_digits-front zero n = ap (λ m. (48 + m % 10) ∷ []) (sym (div-one n))
 last_digits-front (suc k) n =
-    ap (λ ds. ds ++ (48 + n % 10) ∷ []) (last_digits-front k (n / 10))
-    ∙ ap (λ m. (48 + m % 10) ∷ last_digits (suc k) n) (div_pow n k)
+    rw (last_digits-front k _) (ap (λ m. (48 + m % 10) ∷ last_digits (suc k) n) (div_pow n k))
 
 -- if the buffer ends with the last k digits of n, storing the next digit before these gives the
 -- last k + 1 digits
@@ -35,10 +33,9 @@ pub digit_before : (k n left at : ℕ) (buffer : List ℕ) →
     left ≡ n / 10 ^ k → at < length buffer → drop (at + 1) buffer ≡ last_digits k n →
     drop at (set buffer at (48 + left % 10)) ≡ last_digits (k + 1) n
 digit_before k n left at buffer e h d =
-    drop-set_at buffer at at (48 + left % 10) refl h
-    ∙ ap (λ ds. (48 + left % 10) ∷ ds) d
-    ∙ ap (λ m. (48 + m % 10) ∷ last_digits k n) e
-    ∙ sym (rw add-one (last_digits-front k n))
+    drop-set_at buffer at at _ refl h
+    ∙ rw d (ap (λ m. (48 + m % 10) ∷ last_digits k n) e
+    ∙ sym (rw add-one (last_digits-front k n)))
 
 pub many_digits : (n : ℕ) → n < 2 ^ 64 → (k : ℕ) → 10 ^ k ≤ n → k < length (decimal n)
 many_digits n h = decimal_by_steps (λ m ds. (k : ℕ) → 10 ^ k ≤ m → k < length ds) first next n h
@@ -57,49 +54,49 @@ many_digits n h = decimal_by_steps (λ m ds. (k : ℕ) → 10 ^ k ≤ m → k < 
         10 ^ k ≤ m → k < length (ds ++ (48 + m % 10) ∷ [])
     next m ds more longer zero le = omega (arith, length-append ds ((48 + m % 10) ∷ []))
     next m ds more longer (suc k) le =
-        let rest : 10 ^ k ≤ m / 10 = omega (arith, le, pow-succ' 10 k) in
+        let rest : 10 ^ k ≤ m / 10 = omega arith in
         omega (arith, length-append ds ((48 + m % 10) ∷ []), longer k rest)
 
 pub number_of-push : (ds : List ℕ) (b : ℕ) → number_of (ds ++ b ∷ []) ≡ 10 * number_of ds + (b - 48)
-number_of-push ds b = fold-append (λ n c. 10 * n + (c - 48)) 0 ds (b ∷ [])
+number_of-push ds b = fold-append (λ n c. 10 * n + (c - 48)) 0 ds _
 
 last_value : (n m : ℕ) → m ≡ n / 10 → 10 * m + (48 + n % 10 - 48) ≡ n
-last_value n m e = omega (arith, e)
+last_value n m e = omega arith
 
 pub decimal_value : (n : ℕ) → n < 2 ^ 64 → number_of (decimal n) ≡ n
 decimal_value n h =
     decimal_by_steps (λ m ds. number_of ds ≡ m)
     (λ m k. omega arith)
-    (λ m ds k e. number_of-push ds (48 + m % 10) ∙ last_value m (number_of ds) e)
+    (λ m ds k e. number_of-push ds _ ∙ last_value m _ e)
     n h
 
 digit_of : (m : ℕ) → m < 10 → is_ascii_digit (48 + m) ≡ true
-digit_of m h = and_from (leb 48 (48 + m)) (leb (48 + m) 57) (le-leb 48 (48 + m) (omega arith))
+digit_of m h = and_from _ _ (le-leb 48 _ (omega arith))
     (le-leb (48 + m) 57 (omega arith))
 
 digits_push : (ds : List ℕ) (m : ℕ) → m < 10 → list_all is_ascii_digit ds ≡ true →
     list_all is_ascii_digit (ds ++ (48 + m) ∷ []) ≡ true
 digits_push ds m h k =
     list_all-append is_ascii_digit ds ((48 + m) ∷ [])
-    ∙ and_from (list_all is_ascii_digit ds) (list_all is_ascii_digit ((48 + m) ∷ [])) k
-    (and_from (is_ascii_digit (48 + m)) true (digit_of m h) refl)
+    ∙ and_from _ _ k
+    (and_from _ true (digit_of m h) refl)
 
 pub decimal_digits : (n : ℕ) → n < 2 ^ 64 → list_all is_ascii_digit (decimal n) ≡ true
 decimal_digits n h =
     decimal_by_steps (λ m ds. list_all is_ascii_digit ds ≡ true)
     (λ m k. digits_push [] m k refl)
-    (λ m ds k e. digits_push ds (m % 10) (omega arith) e)
+    (λ m ds k e. digits_push ds _ (omega arith) e)
     n h
 
 pub decimal_word : (n : ℕ) → n < 2 ^ 64 → is_word (decimal n) ≡ true
-decimal_word n h = some (decimal n) (decimal_nonempty n h)
+decimal_word n h = some _ (decimal_nonempty n h)
   where
     some : (ds : List ℕ) → 0 < length ds → is_word ds ≡ true
     some [] h = absurd (omega arith)
     some (d ∷ ds) h = refl
 
 pub decimal_are_digits : (n : ℕ) → n < 2 ^ 64 → are_digits (decimal n) ≡ true
-decimal_are_digits n h = and_from (is_word (decimal n)) (list_all is_ascii_digit (decimal n))
+decimal_are_digits n h = and_from _ _
     (decimal_word n h) (decimal_digits n h)
 
 pub last_digits_digits : (d n : ℕ) → list_all is_ascii_digit (last_digits d n) ≡ true
@@ -115,13 +112,11 @@ length-last_digits (suc d) n =
 
 pub scaled_digits : (d n : ℕ) → n < 2 ^ 64 → number_of (decimal (n / 10 ^ d) ++ last_digits d n) ≡ n
 scaled_digits zero n h = ap number_of (append-nil (decimal (n / 10 ^ 0)))
-    ∙ ap (λ m. number_of (decimal m)) (div-one n) ∙ decimal_value n h
+    ∙ rw div-one (decimal_value n h)
 scaled_digits (suc d) n h =
     let small : n / 10 < 2 ^ 64 = omega arith in
     ap number_of
     (sym (append_assoc (decimal (n / 10 ^ suc d)) (last_digits d (n / 10)) ((48 + n % 10) ∷ [])))
     ∙ number_of-push (decimal (n / 10 ^ suc d) ++ last_digits d (n / 10)) (48 + n % 10)
-    ∙ ap (λ m. 10 * number_of (decimal m ++ last_digits d (n / 10)) + (48 + n % 10 - 48))
-    (sym (div_pow n d))
-    ∙ last_value n (number_of (decimal (n / 10 / 10 ^ d) ++ last_digits d (n / 10)))
-    (scaled_digits d (n / 10) small)
+    ∙ rw (← div_pow) (last_value n _
+    (scaled_digits d _ small))

@@ -25,13 +25,12 @@ pub kept_more : (w front : Word) (b : ℕ) → front ≡ take 65 w → length fr
     front ++ b ∷ [] ≡ take 65 (w ++ b ∷ [])
 kept_more w front b e h =
     let short : length w ≤ 64 = omega (arith, h, ap length e, length-take 65 w) in
-    ap (λ z. z ++ b ∷ []) (e ∙ take_all 65 w (omega arith))
-    ∙ sym (take_all 65 (w ++ b ∷ []) (omega (arith, length-append w (b ∷ []))))
+    rw (e ∙ take_all 65 w (omega arith)) (sym (take_all 65 (w ++ b ∷ []) (omega (arith, length-append w (b ∷ [])))))
 
 pub kept_full : (w front : Word) (b : ℕ) → front ≡ take 65 w → 65 < length front + 1 →
     front ≡ take 65 (w ++ b ∷ [])
 kept_full w front b e h = e
-    ∙ sym (take-append-le 65 w (b ∷ []) (omega (arith, h, ap length e, length-take 65 w)))
+    ∙ sym (take-append-le 65 w _ (omega (arith, ap length e, length-take 65 w)))
 
 -- ---- the end of a word
 
@@ -44,16 +43,16 @@ words-last : (p : Tokenizer) (text : List ℕ) (h : HasWords p text) → 0 < len
 words-last p text h some =
     let size = ap length h.front in
     let more : 0 < length h.last = omega (arith, length-take 65 h.last) in
-    words-parted text h.last h.parted
-    ∙ ap (λ z. ended_words text ++ z) (filter-word h.last more)
+    words-parted text _ h.parted
+    ∙ rw (filter-word _ more) refl
 
 last-none : (p : Tokenizer) (text : List ℕ) (h : HasWords p text) → p.word ≡ [] → h.last ≡ []
 last-none p text h e =
-    nil_from_length h.last (omega (arith, ap length (sym h.front ∙ e), length-take 65 h.last))
+    nil_from_length _ (omega (arith, ap length (sym h.front ∙ e), length-take 65 h.last))
 
 pub ended_none : (p : Tokenizer) (text : List ℕ) (h : HasWords p text) → p.word ≡ [] →
     HasAdded p.builder (words text)
-ended_none p text h e = rw (words-parted text h.last h.parted, last-none p text h e, append-nil)
+ended_none p text h e = rw (words-parted text _ h.parted, last-none, append-nil)
     h.judged
 
 pub ended_one : (p : Tokenizer) (text : List ℕ) (h : HasWords p text) → 0 < length p.word →
@@ -76,8 +75,8 @@ pub words_after_byte : (p p' : Tokenizer) (text : List ℕ) (b : ℕ) (h : HasWo
     HasWords p' (text ++ b ∷ [])
 words_after_byte p p' text b h e builder word = record {
   last = h.last ++ b ∷ [];
-  parted = IsParted-byte text h.last b h.parted e;
-  judged = rw (builder, ended_words-byte text b e) h.judged;
+  parted = IsParted-byte text _ b h.parted e;
+  judged = rw (builder, ended_words-byte) h.judged;
   front = word;
 }
 
@@ -86,15 +85,14 @@ pub words_after_separator : (p : Tokenizer) (text : List ℕ) (b : ℕ) → is_s
 words_after_separator p text b e k = record {
   last = [];
   parted = IsParted-separator text b e;
-  judged = rw (ended_words-separator text b e) k.1;
+  judged = rw ended_words-separator k.1;
   front = k.0;
 }
 
 more_bytes : (text bytes : List ℕ) (i b : ℕ) → i < length bytes → b ≡ get_or bytes i 0 →
     (text ++ take i bytes) ++ b ∷ [] ≡ text ++ take (i + 1) bytes
 more_bytes text bytes i b inside at =
-    append_assoc text (take i bytes) (b ∷ []) ∙ ap (λ x. text ++ (take i bytes ++ x ∷ [])) at
-    ∙ ap (λ z. text ++ z) (sym (take_more bytes i 0 inside))
+    append_assoc text _ _ ∙ rw at (ap (text ++◌) (sym (take_more bytes i 0 inside)))
 
 -- a fault that may be reported for the words of a text may be reported, whatever bytes follow
 pub fault_further : (d : ℕ) (text more : List ℕ) (f : GridFault) →
@@ -112,22 +110,21 @@ fault_further d text more f h =
 parted_word : (p : Tokenizer) (text w : List ℕ) (h : HasWords p text) → p.word ≡ [] →
     list_any is_separator w ≡ false → 0 < length w → words (text ++ w) ≡ ended_words text ++ w ∷ []
 parted_word p text w h e none some =
-    h.parted.all w ∙ ap (λ z. ended_words text ++ words (z ++ w)) (last-none p text h e)
-    ∙ ap (λ z. ended_words text ++ z) (words-plain w none ∙ filter-word w some)
+    h.parted.all w ∙ rw last-none (ap (ended_words text ++◌) (words-plain w none ∙ filter-word w some))
 
 -- ---- the next bytes of a piece
 
 same_front : (text bytes rest : List ℕ) (at n : ℕ) → rest ≡ drop at bytes →
     (text ++ take at bytes) ++ take n rest ≡ text ++ take (at + n) bytes
 same_front text bytes rest at n e =
-    append_assoc text (take at bytes) (take n rest)
-    ∙ ap (λ z. text ++ z) (ap (λ z. take at bytes ++ take n z) e ∙ sym (take-add at n bytes))
+    append_assoc text _ _
+    ∙ rw (ap (λ z. take at bytes ++ take n z) e ∙ sym (take-add at n bytes)) refl
 
 pub same_whole : (text bytes rest : List ℕ) (at : ℕ) → rest ≡ drop at bytes →
     (text ++ take at bytes) ++ rest ≡ text ++ bytes
 same_whole text bytes rest at e =
-    append_assoc text (take at bytes) rest
-    ∙ ap (λ z. text ++ z) (ap (λ z. take at bytes ++ z) e ∙ take-append-drop at bytes)
+    append_assoc text _ rest
+    ∙ rw (ap (take at bytes ++◌) e ∙ take-append-drop at bytes) refl
 
 -- let the `len` bytes at `at`, after a height, spell `value` (`IsPlain`), and the separator `b`
 -- follow. If `j` has added the cell of `value`, the height and the separator have been read
@@ -162,7 +159,7 @@ taken_both : (a b c : Tokenizer) (bytes : List ℕ) (from i j : ℕ) → HasTake
     HasTaken b c bytes i j → HasTaken a c bytes from j
 taken_both a b c bytes from i j h k = record {
   scale = k.scale ∙ h.scale;
-  further = omega (arith, h.further, k.further);
+  further = omega arith;
   within = k.within;
   words = λ text w. k.words text (h.words text w);
 }
@@ -175,17 +172,17 @@ pub taken_byte : (a b c d : Tokenizer) (bytes : List ℕ) (from i j x : ℕ) →
 taken_byte a b c d bytes from i j x h inside is scale byte k =
     taken_both a b d bytes from i j h (record {
       scale = k.scale ∙ scale;
-      further = omega (arith, k.further);
+      further = omega arith;
       within = k.within;
       words = λ text w. k.words text
-          (subst (HasWords c) (more_bytes text bytes i x inside is) (byte (text ++ take i bytes) w));
+          (rw more_bytes at (byte _ w));
     })
 
 -- the words of a text and the front of `bytes` that is taken in two steps
 pub taken_words : (a b c : Tokenizer) (text bytes : List ℕ) (i j : ℕ) → HasTaken a b bytes 0 i →
     HasTaken b c bytes i j → HasWords a text → HasWords c (text ++ take j bytes)
 taken_words a b c text bytes i j h k w = (taken_both a b c bytes 0 i j h k).words text
-    (rw (append-nil text) w)
+    (rw append-nil w)
 
 -- a fault that may be reported when the byte `b` at `at` has been read
 pub fault_at : (d d' : ℕ) (text bytes : List ℕ) (at b : ℕ) (f : GridFault) → d' ≡ d →

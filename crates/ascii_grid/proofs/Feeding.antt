@@ -28,28 +28,28 @@ use Rattle.ascii_grid.proofs.Spelled.{lawful_words}
 
 pub few_fault : (d : ℕ) (text : List ℕ) → length text ≤ most_bytes →
     text_fault d text ≡ option_or (words_fault d (words text)) (end_fault (words text))
-few_fault d text h = rw (le-leb (length text) most_bytes h) refl
+few_fault d text h = rw le-leb
 
 few_so_far : (d : ℕ) (text : List ℕ) → length text ≤ most_bytes →
     fault_so_far d text ≡ words_fault d (ended_words text)
-few_so_far d text h = rw (le-leb (length text) most_bytes h) refl
+few_so_far d text h = rw le-leb
 
 pub many_so_far : (d : ℕ) (text : List ℕ) → most_bytes < length text → fault_so_far d text
     ≡ option_or (words_fault d (ended_words (take most_bytes text))) (Some TooLong)
-many_so_far d text h = rw (lt-leb (length text) most_bytes h) refl
+many_so_far d text h = rw lt-leb
 
 many_fault : (d : ℕ) (text : List ℕ) → most_bytes < length text →
     text_fault d text ≡ fault_so_far d text
-many_fault d text h = rw (lt-leb (length text) most_bytes h) refl
+many_fault d text h = rw lt-leb
 
 -- the fault so far: that of the words ended in the first 2^29 bytes, else `TooLong` if more follow
 so_far : (d : ℕ) (text : List ℕ) → fault_so_far d text ≡ option_or (words_fault d (ended_words
     (take most_bytes text))) (cond (nat_le (length text) most_bytes) None (Some TooLong))
 so_far d text =
-    elim (cases_lt most_bytes (length text)) [
-      | inl far ↦ rw (lt-leb (length text) most_bytes far) refl
-      | inr near ↦ rw (le-leb (length text) most_bytes near, take_all most_bytes text near)
-          (sym (option_or-none (words_fault d (ended_words text))))
+    elim (cases_lt most_bytes _) [
+      | inl far ↦ rw (lt-leb (length text) most_bytes far)
+      | inr near ↦ rw (le-leb, take_all most_bytes text near)
+          (sym (option_or-none _))
     ]
 
 front_of : (front more : List ℕ) → (rest : List ℕ)
@@ -59,13 +59,13 @@ front_of front more =
       | inl far ↦ (
         [],
         take-append-le most_bytes front more (omega arith)
-            ∙ sym (append-nil (take most_bytes front)),
+            ∙ sym (append-nil _),
       )
       | inr near ↦
           let at : length front + (most_bytes - length front) ≡ most_bytes = omega arith in (
             take (most_bytes - length front) more,
             ap (λ n. take n (front ++ more)) (sym at)
-                ∙ take-append-add front more (most_bytes - length front) ∙ ap (λ z. z
+                ∙ take-append-add front more _ ∙ ap (λ z. z
                 ++ take (most_bytes - length front) more) (sym (take_all most_bytes front near)),
           )
     ]
@@ -156,8 +156,8 @@ stays d front more f h = whole_refusal d (front ++ more) f (refusal_stays d fron
 refused : (d : ℕ) (front : List ℕ) (f : GridFault) → length front ≤ most_bytes →
     IsWordFault d (ended_words front) f → IsRefusalSoFar d front f
 refused d front f short h =
-    reported_further _ _ (words_fault d (ended_words front)) (fault_so_far d front) f
-    (λ asks. subst (λ z. AsksAtHeight (ended_words z)) (sym (take_all most_bytes front short)) asks)
+    reported_further _ _ _ _ f
+    (subst (λ z. AsksAtHeight (ended_words z)) (sym (take_all most_bytes front short)))
     (λ g e. few_so_far d front short ∙ e) h
 
 read_none : (p : Tokenizer) (text : List ℕ) → HasWords p text →
@@ -168,14 +168,14 @@ read_none p text h = judged_none p.builder (ended_words text) h.judged
 
 asked : (text : List ℕ) → length text ≤ most_bytes → AsksForCells (words text) → AsksInText text
 asked text short asks =
-    (rw (le-leb (length text) most_bytes short) asks, λ far. absurd (omega arith))
+    (rw le-leb asks, λ far. absurd (omega arith))
 
 pub end_refused : (d : ℕ) (text : List ℕ) (f : GridFault) → length text ≤ most_bytes →
     IsWordFault d (words text) f → IsRefusal d text f
 end_refused d text f short h =
-    reported_further _ _ (words_fault d (words text)) (text_fault d text) f
+    reported_further _ _ _ _ f
     (λ asks. asked text short asks.0)
-    (λ g e. few_fault d text short ∙ ap (λ o. option_or o (end_fault (words text))) e) h
+    (λ g e. few_fault d text short ∙ rw e refl) h
 
 -- let a text of at most 2^29 bytes have no faulty word. A result that meets what
 -- `GridBuilder::finish` ensures meets the clauses `grid` and `fault` of `GridReader::finish`
@@ -203,11 +203,11 @@ lawful_text d text g few h =
 -- ---- what a reader was fed
 
 pub is_reading : (r : Reader) (text : List ℕ) → r.fault ≡ None → WasFed r text → IsReading r text
-is_reading r text e h = MatchOption-at_none (IsReading r text) (IsRefusalSoFar r.scale text) e h
+is_reading r text e h = MatchOption-at_none _ _ e h
 
 pub answered : (r : Reader) (text : List ℕ) (f : GridFault) → r.fault ≡ Some f → WasFed r text →
     IsRefusalSoFar r.scale text f
-answered r text f e h = MatchOption-at_some (IsReading r text) (IsRefusalSoFar r.scale text) f e h
+answered r text f e h = MatchOption-at_some _ _ f e h
 
 pub answered_more : (r : Reader) (text more : List ℕ) (f : GridFault) → r.fault ≡ Some f →
     WasFed r text → WasFed r (text ++ more)
@@ -219,7 +219,7 @@ pub as_reading : (r : Reader) (text : List ℕ) → r.fault ≡ None → WasFed 
     IsReading (reading r.words r.count) text
 as_reading r text e h =
     let k = is_reading r text e h in
-    record { words_of = k.words_of; same_scale = refl; size = k.size; short = k.short }
+    assumption
 
 -- ---- a piece
 
@@ -263,10 +263,10 @@ module _ (w : Tokenizer) (n : ℕ) (text piece : List ℕ) (within : ℕ)
   fed_whole p all next =
       let size = length-append text piece in
       record {
-        words_of = subst (λ z. HasWords p (text ++ z)) (take_all within piece all) next;
+        words_of = rw take_all at next;
         same_scale = refl;
-        size = omega (arith, size, cut, all, k.size);
-        short = omega (arith, size, cut, all, k.size, k.short);
+        size = omega arith;
+        short = omega arith;
       }
 
 pub faultless : (r : Reader) (text : List ℕ) → IsReading r text → fault_so_far r.scale text ≡ None

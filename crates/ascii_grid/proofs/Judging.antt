@@ -60,9 +60,9 @@ pub words-flat : (ps : Pairs) (rest : List Word) → are_keys ps ≡ true → (h
     ++ rest) ≡ flat ps ++ header_words rest) × (height_words (flat ps ++ rest) ≡ height_words rest)
 words-flat [] rest h = (refl, refl)
 words-flat (p ∷ ps) rest h =
-    let k = and_parts (begins_with_letter p.0) (are_keys ps) h in
+    let k = and_parts _ (are_keys ps) h in
     let more = words-flat ps rest k.1 in
-    rw k.0 (ap (λ z. p.0 ∷ p.1 ∷ z) more.0, more.1)
+    rw k.0 (rw more.0 refl, more.1)
 
 pub words-whole : (ps : Pairs) → are_keys ps ≡ true → (header_words (flat ps) ≡ flat ps)
     × (height_words (flat ps) ≡ [])
@@ -74,16 +74,16 @@ key_left-flat (p ∷ ps) rest = key_left-flat ps rest
 
 pub pairs-flat : (ps : Pairs) → pairs (flat ps) ≡ ps
 pairs-flat [] = refl
-pairs-flat (p ∷ ps) = ap (λ z. p ∷ z) (pairs-flat ps)
+pairs-flat (p ∷ ps) = rw (pairs-flat ps) refl
 
 pub flat-push : (ps : Pairs) (k v : Word) → flat (ps ++ (k, v) ∷ []) ≡ flat ps ++ k ∷ v ∷ []
 flat-push [] k v = refl
-flat-push (p ∷ ps) k v = ap (λ z. p.0 ∷ p.1 ∷ z) (flat-push ps k v)
+flat-push (p ∷ ps) k v = rw (flat-push ps k v) refl
 
 pub are_keys-push : (ps : Pairs) (k v : Word) → are_keys ps ≡ true → begins_with_letter k ≡ true →
     are_keys (ps ++ (k, v) ∷ []) ≡ true
 are_keys-push ps k v h b =
-    list_all-append (λ (p : Word × Word). begins_with_letter p.0) ps ((k, v) ∷ []) ∙ rw (h, b) refl
+    list_all-append (λ p. begins_with_letter p.0) ps ((k, v) ∷ []) ∙ rw (h, b)
 
 pub header_fault-flat : (before : List Word) (ps : Pairs) (rest : List Word) →
     header_fault before (flat ps ++ rest)
@@ -99,8 +99,8 @@ header_fault-flat before (p ∷ ps) rest =
 pub list_any-keys_before : (t : Word → Bool) (ps : Pairs) (before : List Word) → list_any t
     (keys_before ps before) ≡ (is_some (find (λ (p : Word × Word). t p.0) ps) || list_any t before)
 list_any-keys_before t [] before = refl
-list_any-keys_before t (p ∷ ps) before = list_any-keys_before t ps (p.0 ∷ before)
-    ∙ go (t p.0) (find (λ (q : Word × Word). t q.0) ps)
+list_any-keys_before t (p ∷ ps) before = list_any-keys_before t ps _
+    ∙ go _ _
   where
     go : (a : Bool) (o : Option (Word × Word)) →
         (is_some o || (a || list_any t before)) ≡ (is_some (cond a (Some p) o) || list_any t before)
@@ -119,13 +119,13 @@ is_given-slots_of slot ps = is_some-option_map _ _
 pub missing_of-slots_of : (ps : Pairs) → missing_of (slots_of ps) ≡ missing_fault (flat ps)
 missing_of-slots_of ps =
     rw (
-      pairs-flat ps,
-      is_given-slots_of Ncols ps,
-      is_given-slots_of Nrows ps,
-      is_given-slots_of Xll ps,
-      is_given-slots_of Yll ps,
-      is_given-slots_of Cellsize ps,
-    ) refl
+      pairs-flat,
+      is_given-slots_of,
+      is_given-slots_of,
+      is_given-slots_of,
+      is_given-slots_of,
+      is_given-slots_of,
+    )
 
 pub number-of_pair : (o : Option (Word × Word)) → unwrap_or (option_map (λ (p : Word × Word).
     number_of p.1) o) 0 ≡ number_of (unwrap_or (option_map (λ (p : Word × Word). p.1) o) [])
@@ -134,11 +134,11 @@ number-of_pair (Some p) = refl
 
 pub wanted_of-slots_of : (ps : Pairs) → wanted_of (slots_of ps) ≡ cells_wanted (flat ps)
 wanted_of-slots_of ps =
-    rw (pairs-flat ps, number-of_pair (given Ncols ps), number-of_pair (given Nrows ps)) refl
+    rw (pairs-flat, number-of_pair, number-of_pair)
 
 given-push : (s : Key) (ps : Pairs) (k v : Word) →
     given s (ps ++ (k, v) ∷ []) ≡ option_or (given s ps) (cond (fills s k) (Some (k, v)) None)
-given-push s ps k v = find-append (λ (p : Word × Word). fills s p.0) ps ((k, v) ∷ [])
+given-push s ps k v = find-append (λ p. fills s p.0) ps ((k, v) ∷ [])
 
 -- `qs` gives `p` for this slot, and agrees with `ps` on all other slots
 abbrev FilledAt : Key → Word × Word → Pairs → Pairs → Type 0
@@ -154,7 +154,7 @@ with_value-at Ncols p ps qs h = rw (
   h.1 Yll (λ e. cc),
   h.1 Cellsize (λ e. cc),
   h.1 Nodata (λ e. cc),
-) refl
+)
 with_value-at Nrows p ps qs h = rw (
   h.0,
   h.1 Ncols (λ e. cc),
@@ -162,7 +162,7 @@ with_value-at Nrows p ps qs h = rw (
   h.1 Yll (λ e. cc),
   h.1 Cellsize (λ e. cc),
   h.1 Nodata (λ e. cc),
-) refl
+)
 with_value-at Xll p ps qs h = rw (
   h.0,
   h.1 Ncols (λ e. cc),
@@ -170,7 +170,7 @@ with_value-at Xll p ps qs h = rw (
   h.1 Yll (λ e. cc),
   h.1 Cellsize (λ e. cc),
   h.1 Nodata (λ e. cc),
-) refl
+)
 with_value-at Yll p ps qs h = rw (
   h.0,
   h.1 Ncols (λ e. cc),
@@ -178,7 +178,7 @@ with_value-at Yll p ps qs h = rw (
   h.1 Xll (λ e. cc),
   h.1 Cellsize (λ e. cc),
   h.1 Nodata (λ e. cc),
-) refl
+)
 with_value-at Cellsize p ps qs h = rw (
   h.0,
   h.1 Ncols (λ e. cc),
@@ -186,7 +186,7 @@ with_value-at Cellsize p ps qs h = rw (
   h.1 Xll (λ e. cc),
   h.1 Yll (λ e. cc),
   h.1 Nodata (λ e. cc),
-) refl
+)
 with_value-at Nodata p ps qs h = rw (
   h.0,
   h.1 Ncols (λ e. cc),
@@ -194,7 +194,7 @@ with_value-at Nodata p ps qs h = rw (
   h.1 Xll (λ e. cc),
   h.1 Yll (λ e. cc),
   h.1 Cellsize (λ e. cc),
-) refl
+)
 
 -- if the pairs `ps` leave the slot of the key `k` empty, filling it with `v` gives the slots that
 -- `ps` and then the pair of `k` and `v` fill
@@ -216,13 +216,13 @@ pub words_fault-flat : (d : ℕ) (ps : Pairs) (rest header heights : List Word) 
     words_fault d (flat ps ++ rest) ≡ option_or (header_fault (keys_before ps []) header)
     (heights_fault d (flat ps ++ header) 0 heights)
 words_fault-flat d ps rest header heights keys none h k =
-    let front : header_words (flat ps ++ rest) ≡ flat ps ++ header = (words-flat ps rest keys).0
-    ∙ ap (λ z. flat ps ++ z) h in
-    let back : height_words (flat ps ++ rest) ≡ heights = (words-flat ps rest keys).1 ∙ k in
-    let first : header_fault [] (flat ps ++ header) ≡ header_fault (keys_before ps []) header =
-    header_fault-flat [] ps header
+    let front = (words-flat ps rest keys).0
+    ∙ ap (flat ps ++◌) h in
+    let back = (words-flat ps rest keys).1 ∙ k in
+    let first =
+    header_fault-flat _ ps header
     ∙ ap (λ o. option_or o (header_fault (keys_before ps []) header)) none in
-    rw (front, back, first) refl
+    rw (front, back, first)
 
 pub words_fault-key : (d : ℕ) (ps : Pairs) (k : Word) →
     are_keys ps ≡ true → header_fault [] (flat ps) ≡ None → begins_with_letter k ≡ true →
@@ -241,8 +241,8 @@ words_fault-value d ps k v keys none b first =
 
 pub words-begun : (hs : List Word) → HasBegun hs → (header_words hs ≡ []) × (height_words hs ≡ hs)
 words-begun [] h = absurd h
-words-begun (x ∷ []) h = (rw h refl, rw h refl)
-words-begun (x ∷ y ∷ hs) h = (rw h refl, rw h refl)
+words-begun (x ∷ []) h = (rw h, rw h)
+words-begun (x ∷ y ∷ hs) h = (rw h, rw h)
 
 pub HasBegun-more : (hs more : List Word) → HasBegun hs → HasBegun (hs ++ more)
 HasBegun-more [] more h = absurd h
@@ -252,19 +252,17 @@ pub words_fault-heights : (d : ℕ) (ps : Pairs) (hs : List Word) →
     are_keys ps ≡ true → header_fault [] (flat ps) ≡ None → HasBegun hs →
     words_fault d (flat ps ++ hs) ≡ heights_fault d (flat ps) 0 hs
 words_fault-heights d ps hs keys none h =
-    words_fault-flat d ps hs [] hs keys none (words-begun hs h).0 (words-begun hs h).1
+    words_fault-flat d ps hs _ hs keys none (words-begun hs h).0 (words-begun hs h).1
     ∙ ap (λ z. heights_fault d z 0 hs) (append-nil (flat ps))
 
 pub heights_fault-push : (d : ℕ) (header : List Word) (place : ℕ) (hs : List Word) (w : Word) →
     heights_fault d header place (hs ++ w ∷ [])
     ≡ option_or (heights_fault d header place hs) (height_fault d header (place + length hs) w)
 heights_fault-push d header place [] w =
-    option_or-none (height_fault d header place w)
+    option_or-none _
     ∙ ap (λ n. height_fault d header n w) (omega arith)
 heights_fault-push d header place (x ∷ hs) w =
-    ap (option_or (height_fault d header place x))
-    (heights_fault-push d header (place + 1) hs w
+    rw (heights_fault-push d header (place + 1) hs w
     ∙ ap (λ n. option_or (heights_fault d header (place + 1) hs) (height_fault d header n w))
-    (let e : place + 1 + length hs ≡ place + (suc (length hs)) = omega arith in e))
-    ∙ sym (option_or-assoc (height_fault d header place x) (heights_fault d header (place + 1) hs)
-    (height_fault d header (place + suc (length hs)) w))
+    (let e : place + 1 + length hs ≡ place + (suc (length hs)) = omega arith in e)) (sym (option_or-assoc (height_fault d header place x) (heights_fault d header (place + 1) hs)
+    (height_fault d header (place + suc (length hs)) w)))

@@ -32,13 +32,13 @@ among : (slot : Key) (keys : List Word) (w : Word) → AreOf slot keys →
     list_any (λ key. bytes_eq key w) keys ≡ true → slot_at w ≡ Some slot
 among slot [] w are any = cc
 among slot (key ∷ keys) w are any =
-    elim (cases_Bool (bytes_eq key w)) [
+    elim (cases_Bool _) [
       | inl here ↦ ap slot_at (sym ((bytes_eq-Decides key w).0 here)) ∙ are.0
       | inr apart ↦ among slot keys w are.1 (rw apart at any)
     ]
 
 pub slot_filled : (w : Word) (slot : Key) → fills slot w ≡ true → slot_of w ≡ Some slot
-slot_filled w slot h = among slot (keys_of slot) (map to_ascii_lowercase w) (keys_are slot) h
+slot_filled w slot h = among slot _ _ (keys_are slot) h
 
 passes : (t : Key → Bool) (slots : List Key) (slot : Key) → find t slots ≡ Some slot → t slot ≡ true
 passes t [] slot h = cc
@@ -54,7 +54,7 @@ fills_slot w slot h = passes (λ s. fills s w) all_slots slot h
 pub fills_none_else : (w : Word) (slot s : Key) → slot_of w ≡ Some slot → (s ≡ slot → ⊥) →
     fills s w ≡ false
 fills_none_else w slot s h other =
-    elim (cases_Bool (fills s w)) [
+    elim (cases_Bool _) [
       | inl here ↦ absurd (other (same_Some s slot (sym (slot_filled w s here) ∙ h)))
       | inr apart ↦ apart
     ]

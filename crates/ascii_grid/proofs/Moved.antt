@@ -8,7 +8,7 @@ use Rattle.ascii_grid.specs.Device.{Device, HasRead, HasWritten, Moves}
 
 Moves-more : (a b c : ℕ) (x y : List ℕ) → Moves a b (length x) → Moves b c (length y) →
     Moves a c (length (x ++ y))
-Moves-more a b c x y h k = omega (arith, length-append x y, h, k)
+Moves-more a b c x y h k = omega (arith, length-append x y, k)
 
 pub written_more : {W : Type 0} (contents : W → Option (List ℕ)) (a b c : Device W) (x y : List ℕ) →
     HasWritten contents a b x → HasWritten contents b c y → HasWritten contents a c (x ++ y)
@@ -28,13 +28,13 @@ pub written_some : {W : Type 0} (contents : W → Option (List ℕ)) (a b : Devi
     (n : ℕ) (bytes : List ℕ) → n ≤ length bytes → Appends (contents a.device) (contents b.device)
     (take n bytes) → Moves a.moved b.moved n → HasWritten contents a b (take n bytes)
 written_some contents a b n bytes within known moved =
-    record { known = known; moved = rw (length-take-le n bytes within) moved }
+    record { known = known; moved = rw length-take-le moved }
 
 pub read_some : {R : Type 0} (remaining : R → Option (List ℕ)) (a b : Device R)
     (n : ℕ) (bytes : List ℕ) → n ≤ length bytes → Consumes (remaining a.device) (remaining b.device)
     (take n bytes) → Moves a.moved b.moved n → HasRead remaining a b (take n bytes)
 read_some remaining a b n bytes within known moved =
-    record { known = known; moved = rw (length-take-le n bytes within) moved }
+    record { known = known; moved = rw length-take-le moved }
 
 -- a call that read nothing leaves what was read before
 pub read_kept : {R : Type 0} (remaining : R → Option (List ℕ)) (a b c : Device R) (x : List ℕ) →

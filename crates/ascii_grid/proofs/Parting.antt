@@ -25,50 +25,50 @@ split-at [] ys b h = slice_split-cons_yes is_separator b ys h
 split-at (x ∷ xs) ys b h =
     let rest = split-at xs ys b h in
     elim (cases_Bool (is_separator x)) [
-      | inl here ↦ rw here (ap (λ z. [] ∷ z) rest)
-      | inr apart ↦ rw apart (ap (onto_first x) rest ∙ onto_first-append x _ _
-          (omega (arith, length-slice_split is_separator xs)))
+      | inl here ↦ rw here (rw rest refl)
+      | inr apart ↦ rw apart (rw rest (onto_first-append x _ _
+          (omega (arith, length-slice_split is_separator xs))))
     ]
 
 words-at : (xs ys : List ℕ) (b : ℕ) → is_separator b ≡ true →
     words (xs ++ b ∷ ys) ≡ words xs ++ words ys
-words-at xs ys b h = ap (filter is_word) (split-at xs ys b h) ∙ filter-append is_word
-    (slice_split is_separator xs) (slice_split is_separator ys)
+words-at xs ys b h = rw split-at (filter-append is_word
+    (slice_split is_separator xs) (slice_split is_separator ys))
 
 split-plain : (w : Word) → list_any is_separator w ≡ false → slice_split is_separator w ≡ w ∷ []
 split-plain [] h = refl
 split-plain (x ∷ w) h =
-    let parts = or_parts (is_separator x) (list_any is_separator w) h in
-    rw parts.0 (ap (onto_first x) (split-plain w parts.1))
+    let parts = or_parts _ (list_any is_separator w) h in
+    rw parts.0 (rw (split-plain w parts.1) refl)
 
 pub words-plain : (w : Word) → list_any is_separator w ≡ false → words w ≡ filter is_word (w ∷ [])
-words-plain w h = ap (filter is_word) (split-plain w h)
+words-plain w h = rw split-plain refl
 
 -- ---- a separator ends a word
 
 suffix_len-push : (p : ℕ → Bool) (xs : List ℕ) (b : ℕ) →
     suffix_len p (xs ++ b ∷ []) ≡ cond (p b) (1 + suffix_len p xs) 0
-suffix_len-push p xs b = ap (prefix_len p) (reverse-append xs (b ∷ []))
+suffix_len-push p xs b = rw reverse-append refl
 
 before_last-yes : (p : ℕ → Bool) (xs : List ℕ) (b : ℕ) → p b ≡ true →
     before_last p (xs ++ b ∷ []) ≡ xs
 before_last-yes p xs b h =
     let none : suffix_len (λ x. not (p x)) (xs ++ b ∷ []) ≡ 0 =
-    suffix_len-push (λ x. not (p x)) xs b ∙ rw h refl in
+    suffix_len-push (λ x. not (p x)) xs b ∙ rw h in
     let at : length (xs ++ b ∷ []) - suffix_len (λ x. not (p x)) (xs ++ b ∷ []) - 1 ≡ length xs =
     omega (arith, none, length-append xs (b ∷ [])) in
-    ap (λ n. take n (xs ++ b ∷ [])) at ∙ take_at xs (b ∷ []) (length xs) refl
+    ap (λ n. take n (xs ++ b ∷ [])) at ∙ take_at xs _ _ refl
 
 before_last-no : (p : ℕ → Bool) (xs : List ℕ) (b : ℕ) → p b ≡ false →
     before_last p (xs ++ b ∷ []) ≡ before_last p xs
 before_last-no p xs b h =
     let more : suffix_len (λ x. not (p x)) (xs ++ b ∷ []) ≡ 1 + suffix_len (λ x. not (p x)) xs =
-    suffix_len-push (λ x. not (p x)) xs b ∙ rw h refl in
+    suffix_len-push (λ x. not (p x)) xs b ∙ rw h in
     let at : length (xs ++ b ∷ []) - suffix_len (λ x. not (p x)) (xs ++ b ∷ []) - 1 ≡ length xs
     - suffix_len (λ x. not (p x)) xs - 1 = omega (arith, more, length-append xs (b ∷ [])) in
     let within : length xs - suffix_len (λ x. not (p x)) xs - 1 ≤ length xs = omega arith in
     ap (λ n. take n (xs ++ b ∷ [])) at
-    ∙ take-append-le (length xs - suffix_len (λ x. not (p x)) xs - 1) xs (b ∷ []) within
+    ∙ take-append-le _ xs _ within
 
 -- ---- one more byte, and the words of written rows
 
@@ -85,7 +85,7 @@ ended_words-byte text b e = ap words (before_last-no is_separator text b e)
 pub words-parted : (text : List ℕ) (w : Word) → IsParted text w →
     words text ≡ ended_words text ++ filter is_word (w ∷ [])
 words-parted text w h = ap words (sym (append-nil text)) ∙ h.all []
-    ∙ ap (λ z. ended_words text ++ z) (ap words (append-nil w) ∙ words-plain w h.plain)
+    ∙ rw (ap words (append-nil w) ∙ words-plain w h.plain) refl
 
 pub IsParted-none : IsParted [] []
 IsParted-none = record { plain = refl; all = λ more. refl }
@@ -93,16 +93,16 @@ IsParted-none = record { plain = refl; all = λ more. refl }
 pub IsParted-byte : (text : List ℕ) (w : Word) (b : ℕ) → IsParted text w → is_separator b ≡ false →
     IsParted (text ++ b ∷ []) (w ++ b ∷ [])
 IsParted-byte text w b h e = record {
-  plain = list_any-append is_separator w (b ∷ []) ∙ rw (h.plain, e) refl;
-  all = λ more. ap words (append_assoc text (b ∷ []) more) ∙ h.all (b ∷ more)
-      ∙ rw (ended_words-byte text b e, append_assoc w (b ∷ []) more) refl;
+  plain = list_any-append is_separator w (b ∷ []) ∙ rw (h.plain, e);
+  all = λ more. ap words (append_assoc text _ more) ∙ h.all _
+      ∙ rw (ended_words-byte, append_assoc);
 }
 
 pub IsParted-separator : (text : List ℕ) (b : ℕ) → is_separator b ≡ true →
     IsParted (text ++ b ∷ []) []
 IsParted-separator text b e = record {
   plain = refl;
-  all = λ more. ap words (append_assoc text (b ∷ []) more) ∙ words-at text more b e
+  all = λ more. ap words (append_assoc text _ more) ∙ words-at text more b e
       ∙ ap (λ z. z ++ words more) (sym (ended_words-separator text b e));
 }
 
@@ -113,7 +113,7 @@ pub record IsClean (w : List ℕ) : Type 0 where
 pub words-word : (w rest : List ℕ) (b : ℕ) → IsClean w → is_separator b ≡ true →
     words (w ++ b ∷ rest) ≡ w ∷ words rest
 words-word w rest b h s = words-at w rest b s
-    ∙ ap (λ z. z ++ words rest) (words-plain w h.plain ∙ cond-true _ _ _ h.some)
+    ∙ rw (words-plain w h.plain ∙ cond-true _ _ _ h.some) refl
 
 pub words-row : {X : Type 0} (f : X → List ℕ) (cells : List X) (rest : List ℕ) →
     0 < length cells → All (λ c. IsClean (f c)) cells →

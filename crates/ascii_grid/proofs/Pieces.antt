@@ -35,24 +35,24 @@ pub record HasFedSoFar {R : Type 0} (remaining : R → Option (List ℕ)) (first
 
 not_too_long : (d : ℕ) (text : List ℕ) → fault_so_far d text ≡ None → length text ≤ most_bytes
 not_too_long d text none =
-    elim (cases_lt most_bytes (length text)) [
-      | inl far ↦ let long = (or_none (words_fault d (ended_words (take most_bytes text)))
-          (Some TooLong) (sym (many_so_far d text far) ∙ none)).1 in absurd (cc)
+    elim (cases_lt most_bytes _) [
+      | inl far ↦ let long = (or_none _
+          (Some TooLong) (sym (many_so_far d text far) ∙ none)).1 in absurd cc
       | inr near ↦ near
     ]
 
 consumed_front : (a b : Option (List ℕ)) (text front : List ℕ) → a ≡ Some text →
     Consumes a b front → (rest : List ℕ) × (text ≡ front ++ rest)
-consumed_front None b text front e h = absurd (cc)
+consumed_front None b text front e h = absurd cc
 consumed_front (Some xs) None text front e h = absurd h
 consumed_front (Some xs) (Some ys) text front e h = (ys, sym (same_Some xs text e) ∙ h)
 
 pub consumed_end : (a b : Option (List ℕ)) (text front : List ℕ) → a ≡ Some text →
     Consumes a b front → IsAtEnd b → front ≡ text
-consumed_end None b text front e h end = absurd (cc)
+consumed_end None b text front e h end = absurd cc
 consumed_end (Some xs) None text front e h end = absurd h
 consumed_end (Some xs) (Some ys) text front e h end =
-    sym (sym (same_Some xs text e) ∙ h ∙ ap (λ z. front ++ z) end ∙ append-nil front)
+    sym (sym (same_Some xs text e) ∙ h ∙ rw end (append-nil front))
 
 same_grid_fault : (f g : GridFault) →
     ◌≡◌ {A = Result Raster InputFault} (Err (Grid f)) (Err (Grid g)) → f ≡ g
@@ -118,11 +118,11 @@ module _ {R : Type 0} (remaining : R → Option (List ℕ)) (first old new : Dev
     taken = record {
       bytes = held.text;
       read = read_kept _ _ _ _ _ held.read kept same;
-      few = omega (arith, held.size, held.room);
+      few = omega arith;
     };
     grid = tt;
-    fault = λ text g reported is. absurd (cc);
-    read = λ bad. omega (arith, more, held.count);
+    fault = λ text g reported is. absurd cc;
+    read = λ bad. omega arith;
     sound = λ not. absurd (not refl);
     clean = λ bad. held.faultless;
   }
@@ -135,18 +135,15 @@ pub pieces_ended : {R : Type 0} (remaining : R → Option (List ℕ)) (first now
     ((text : List ℕ) (f : GridFault) → WasFed r text → result ≡ Err (Grid f) →
     IsRefusal r.scale text f) → result ≢ Err Read → ReadsGrid remaining scale first now result
 pieces_ended remaining first now scale taken r result held end grid fault sound =
-    let made : IfOk result (λ g. IsGridText scale held.text g) =
-    rw held.scale_kept at (grid held.text held.fed) in
     record {
       taken = record {
         bytes = held.text;
         read = held.read;
-        few = omega (arith, held.size, held.room);
+        few = omega arith;
       };
-      grid = IfOk-weaker result (λ g. IsGridText scale held.text g) _ (λ g is. (is, end)) made;
+      grid = IfOk-weaker result _ _ (λ g is. (is, end)) (rw held.scale_kept at (grid held.text held.fed));
       fault = λ text f reported is.
-          let whole = subst (λ (z : List ℕ). WasFed r z)
-          (consumed_end _ _ text held.text reported held.read.known end) held.fed in
+          let whole = rw (consumed_end _ _ text _ reported held.read.known end) at held.fed in
           rw held.scale_kept at (fault text f whole is);
       read = λ bad. absurd (sound bad);
       sound = λ not. held.count;

@@ -77,7 +77,7 @@ no_value_faults g h =
       h.cellsize.value,
       h.nodata.short,
       h.nodata.value,
-    ) refl
+    )
 
 -- a written header, and then the words `rest`, reads back as the header of the grid `g`, but with
 -- centres by `x` and `y`
@@ -103,9 +103,9 @@ header_reads_back false false g rest = assumption (no_value_faults g)
 words-line : (key word value rest : List ℕ) → ((x : List ℕ) → words (key ++ x) ≡ word ∷ words x) →
     IsClean value → words (line_text key value ++ rest) ≡ word ∷ value ∷ words rest
 words-line key word value rest begins clean =
-    ap words (regroup key value (10 ∷ []) rest)
-    ∙ begins (value ++ 10 ∷ rest)
-    ∙ ap (λ ws. word ∷ ws) (words-word value rest 10 clean refl) where
+    ap words (regroup key value _ rest)
+    ∙ begins _
+    ∙ ap (word ∷◌) (words-word value rest 10 clean refl) where
       regroup : (a b c d : List ℕ) → ((a ++ b) ++ c) ++ d ≡ a ++ (b ++ (c ++ d))
       regroup a b c d = simp append_assoc
 
@@ -162,11 +162,10 @@ size_ok : (n : ℕ) → 1 ≤ n → n ≤ 4096 → is_size (decimal n) ≡ true
 size_ok n low high =
     let small : n < 2 ^ 64 = omega arith in
     let value = decimal_value n small in
-    and_from (are_digits (decimal n)
-    && leb 1 (number_of (decimal n))) (leb (number_of (decimal n)) 4096)
-    (and_from (are_digits (decimal n)) (leb 1 (number_of (decimal n))) (decimal_are_digits n small)
-    (le-leb 1 (number_of (decimal n)) (omega (arith, value))))
-    (le-leb (number_of (decimal n)) 4096 (omega (arith, value)))
+    and_from _ _
+    (and_from _ _ (decimal_are_digits n small)
+    (le-leb 1 _ (omega arith)))
+    (le-leb _ 4096 (omega arith))
 
 size_written : (slot : Key) (n : ℕ) → n ≤ 4096 → is_value slot (decimal n) ≡ true →
     IsWritten slot (decimal n)
@@ -175,8 +174,8 @@ size_written slot n h ok =
     let few = length-decimal-le 4 n (omega arith) (omega arith) small in
     record {
       value = ok;
-      short = is_short (decimal n) (omega (arith, few));
-      clean = digits_clean (decimal n) (decimal_word n small) (decimal_digits n small);
+      short = is_short _ (omega arith);
+      clean = digits_clean _ (decimal_word n small) (decimal_digits n small);
     }
 
 word_written : (slot : Key) (w : Word) → IsHeaderWord w → is_value slot w ≡ true → IsWritten slot w
@@ -218,7 +217,7 @@ cells_are_heights : (d : ℕ) (nodata : Word) (cells : List (Option ℤ)) →
     (map (cell_text (height_text d) nodata) cells) ≡ map (cell_text (height_text d) nodata) cells)
 cells_are_heights d nodata [] reads = (refl, refl)
 cells_are_heights d nodata (c ∷ cells) reads =
-    words-begun (map (cell_text (height_text d) nodata) (c ∷ cells))
+    words-begun _
     (All-head (λ x. ReadsAs d nodata x (cell_text (height_text d) nodata x)) c cells reads).begins
 
 no_words_fault : (d : ℕ) (ws header heights : List Word) → header_words ws ≡ header →
@@ -229,7 +228,7 @@ no_words_fault d ws header heights p q none clean = rw (p, q, none) clean
 no_end_fault : (ws header heights : List Word) → header_words ws ≡ header →
     height_words ws ≡ heights → no_value_fault header ≡ None → missing_fault header ≡ None →
     ltb (length heights) (cells_wanted header) ≡ false → end_fault ws ≡ None
-no_end_fault ws header heights p q paired whole enough = rw (p, q, paired, whole, enough) refl
+no_end_fault ws header heights p q paired whole enough = rw (p, q, paired, whole, enough)
 
 same_grid : (d : ℕ) (ws header heights : List Word) (g : Raster) →
     header_words ws ≡ header → height_words ws ≡ heights → size_for Ncols header ≡ g.terrain.cols →
@@ -238,7 +237,7 @@ same_grid : (d : ℕ) (ws header heights : List Word) (g : Raster) →
     word_for Cellsize header ≡ g.cellsize → nodata_for header ≡ g.nodata → d ≡ g.scale →
     grid_of d ws ≡ raster_with_sinks g []
 same_grid d ws header heights g p q cols rows cells xll yll cellsize nodata scale =
-    rw (p, q, cols, rows, cells, xll, yll, cellsize, nodata, scale) refl
+    rw (p, q, cols, rows, cells, xll, yll, cellsize, nodata, scale)
 
 pub read_back : (g : Raster) → IsLawful g → length (heights_text g) ≤ most_bytes →
     IsGridText g.scale (heights_text g) (raster_with_sinks g [])

@@ -32,11 +32,11 @@ abbrev pub body : ℕ → ℕ → List ℕ
 body d n = decimal (n / 10 ^ d) ++ decimals_text d n
 
 whole_small : (d n : ℕ) → n < 2 ^ 64 → n / 10 ^ d < 2 ^ 64
-whole_small d n h = omega (arith, h, div-le_self n (10 ^ d))
+whole_small d n h = omega (arith)
 
 whole_no_point : (d n : ℕ) → n < 2 ^ 64 → list_any is_point (decimal (n / 10 ^ d)) ≡ false
 whole_no_point d n h = any-digits is_point (decimal (n / 10 ^ d)) no_point
-    (decimal_digits (n / 10 ^ d) (whole_small d n h))
+    (decimal_digits _ (whole_small d n h))
 
 decimals_no_mark : (d n : ℕ) → list_any is_exponent_mark (decimals_text d n) ≡ false
 decimals_no_mark zero n = refl
@@ -72,8 +72,8 @@ length-decimals (suc d) n = omega (arith, length-last_digits (suc d) n)
 -- `body` begins with a digit, so it has no sign
 body_unsigned : (d n : ℕ) → n < 2 ^ 64 → (without_sign (body d n) ≡ body d n)
     × (is_negative (body d n) ≡ false)
-body_unsigned d n h = bare_digits (decimal (n / 10 ^ d)) (decimals_text d n) (decimal_nonempty
-    (n / 10 ^ d) (whole_small d n h)) (decimal_digits (n / 10 ^ d) (whole_small d n h))
+body_unsigned d n h = bare_digits _ _ (decimal_nonempty
+    _ (whole_small d n h)) (decimal_digits _ (whole_small d n h))
 
 pub decimal_from_value : (d : ℕ) (w : Word) (z : ℤ) → scaled_value d w ≡ Some z →
     is_decimal w ≡ true
@@ -117,11 +117,11 @@ height_value d (negsuc n) h = written_value d (suc n) (45 ∷ body d (suc n)) re
 whole_digits : (d n : ℕ) → d ≤ 6 → n ≤ 10 ^ 15 → length (decimal (n / 10 ^ d)) + d ≤ 16
 whole_digits d n few h =
     let sixteen : 16 - d + d ≡ 16 = omega (arith, few) in
-    let all : 10 ^ (16 - d) * 10 ^ d ≡ 10 ^ 16 = sym (pow-add 10 (16 - d) d)
-    ∙ ap (λ k. 10 ^ k) sixteen in
+    let all = sym (pow-add 10 _ d)
+    ∙ ap (10 ^◌) sixteen in
     let some : 0 < 10 ^ d = let k = one-le-pow d 10 (omega arith) in omega (arith, k) in
     let small : n / 10 ^ d < 10 ^ (16 - d) = (div-lt_iff_lt-mul some).1 (omega (arith, all, h)) in
-    let l = length-decimal-le (16 - d) (n / 10 ^ d) (omega (arith, few)) small
+    let l = length-decimal-le _ _ (omega (arith, few)) small
     (whole_small d n (omega (arith, h))) in
     omega (arith, l, few)
 
@@ -146,17 +146,17 @@ pub record ReadsAs (d : ℕ) (nodata : Word) (c : Option ℤ) (w : Word) : Type 
   pub value : spelled_cell d nodata w ≡ c
 
 pub size_of_height : (z : ℤ) → IsHeight z → unsigned_abs z ≤ 10 ^ 15
-size_of_height (pos n) h = grind (arith, h.1)
-size_of_height (negsuc n) h = grind (arith, h.0)
+size_of_height (pos n) h = grind arith
+size_of_height (negsuc n) h = grind arith
 
 height_test : (z : ℤ) → IsHeight z → is_height z ≡ true
 height_test z h =
-    and_from (int_le lowest z) (int_le z highest) (grind (arith, h.0)) (grind (arith, h.1))
+    and_from _ (int_le z highest) (grind (arith, h.0)) (grind arith)
 
 other_value : (h : ℤ) (o : Option ℤ) → o ≢ Some h → same_value (Some h) o ≡ false
 other_value h None n = refl
 other_value h (Some x) n =
-    false_from_ne_true (int_eq h x) (λ t. n (ap Some (sym ((Decides-int_eq h x).0 t))))
+    false_from_ne_true _ (λ t. n (ap Some (sym ((Decides-int_eq h x).0 t))))
 
 pub reads_cell : (d : ℕ) (nodata : Word) (c : Option ℤ) → d ≤ 6 →
     IsHeaderWord nodata → IfSome c IsHeight → IfSome c (λ h. scaled_value d nodata ≢ Some h) →
@@ -203,8 +203,8 @@ no_heights_fault d header nodata place (c ∷ cells) whole same size reads =
     All-head (λ c. ReadsAs d nodata c (cell_text (height_text d) nodata c)) c cells reads in
     let rest =
     All-tail (λ c. ReadsAs d nodata c (cell_text (height_text d) nodata c)) c cells reads in
-    let none = height_fault-none d header place w (ltb-false 64 (length w) here.short) whole
-    (omega (arith, size)) (ap (λ n. is_cell d n w) same ∙ here.is) in
+    let none = height_fault-none d header place w (ltb-false 64 _ here.short) whole
+    (omega arith) (ap (λ n. is_cell d n w) same ∙ here.is) in
     ap (λ o. option_or o
     (heights_fault d header (place + 1) (map (cell_text (height_text d) nodata) cells))) none
     ∙ no_heights_fault d header nodata (place + 1) cells whole same (omega (arith, size)) rest
@@ -216,8 +216,4 @@ cells_again d nodata [] reads = refl
 cells_again d nodata (c ∷ cells) reads =
     let here =
     All-head (λ c. ReadsAs d nodata c (cell_text (height_text d) nodata c)) c cells reads in
-    let rest =
-    All-tail (λ c. ReadsAs d nodata c (cell_text (height_text d) nodata c)) c cells reads in
-    ap (λ (x : Option ℤ).
-    x ∷ map (spelled_cell d nodata) (map (cell_text (height_text d) nodata) cells)) here.value
-    ∙ ap (λ (xs : List (Option ℤ)). c ∷ xs) (cells_again d nodata cells rest)
+    rw here.value (ap (c ∷◌) (cells_again d nodata cells (All-tail (λ c. ReadsAs d nodata c (cell_text (height_text d) nodata c)) c cells reads)))

@@ -39,18 +39,17 @@ IsShortValue slot w = (is_value slot w ≡ true) × (length w ≤ 64)
 value_ok : (k v : Word) (slot : Key) → fills slot k ≡ true → value_fault k v ≡ None →
     IsShortValue slot v
 value_ok k v slot h e =
-    let short = then_none (is_long v) TooLong _ e in
+    let short = then_none _ TooLong _ e in
     let ok =
-    else_none (is_value slot v) None (bad_value slot) (rw (slot_filled k slot h) at short.1) in
-    (ok.0, ltb-false 64 (length v) short.0)
+    else_none _ None _ (rw (slot_filled k slot h) at short.1) in
+    (ok.0, ltb-false 64 _ short.0)
 
 valid : (before header : List Word) (slot : Key) → header_fault before header ≡ None →
     IfSome (value_for slot header) (IsShortValue slot)
 valid before [] slot none = tt
 valid before (k ∷ []) slot none = tt
 valid before (k ∷ v ∷ rest) slot none =
-    let parts = or_none (key_fault before k) _ none in
-    let values = or_none (value_fault k v) _ parts.1 in
+    let values = or_none _ _ (or_none _ _ none).1 in
     elim (cases_Bool (fills slot k)) [
       | inl here ↦ rw here (value_ok k v slot here values.0)
       | inr apart ↦ rw apart (valid (k ∷ before) rest slot values.1)
@@ -63,21 +62,19 @@ given_slot false s o h = cc
 
 whole_slots : (ps : Pairs) → missing_fault (flat ps) ≡ None → IsWhole (slots_of ps)
 whole_slots ps none =
-    let h = slots_of ps in
-    let a = given_slot (is_some h.cols) Ncols _ (missing_of-slots_of ps ∙ none) in
-    let b = given_slot (is_some h.rows) Nrows _ a.1 in
-    let c = given_slot (is_some h.xll) Xll _ b.1 in
-    let d = given_slot (is_some h.yll) Yll _ c.1 in
-    let e = given_slot (is_some h.cellsize) Cellsize _ d.1 in
-    record { cols = a.0; rows = b.0; xll = c.0; yll = d.0; cellsize = e.0 }
+    let a = given_slot _ Ncols _ (missing_of-slots_of ps ∙ none) in
+    let b = given_slot _ Nrows _ a.1 in
+    let c = given_slot _ Xll _ b.1 in
+    let d = given_slot _ Yll _ c.1 in
+    record { cols = a.0; rows = b.0; xll = c.0; yll = d.0; cellsize = (given_slot _ Cellsize _ d.1).0 }
 
 given_slots : (header : List Word) → missing_fault header ≡ None → IsWhole (slots_of (pairs header))
-given_slots header e = whole_slots (pairs header) (rw (pairs-flat (pairs header)) e)
+given_slots header e = whole_slots (pairs header) (rw pairs-flat e)
 
 value_of : (header : List Word) (slot : Key) → header_fault [] header ≡ None →
     is_given (slots_of (pairs header)) slot ≡ true → IsShortValue slot (word_for slot header)
-value_of header slot none some = go (pair_for slot header)
-    (sym (is_given-slots_of slot (pairs header)) ∙ some) (valid [] header slot none)
+value_of header slot none some = go _
+    (sym (is_given-slots_of slot _) ∙ some) (valid _ header slot none)
   where
     go : (o : Option (Word × Word)) →
         is_some o ≡ true → IfSome (option_map (λ (p : Word × Word). p.1) o) (IsShortValue slot) →
@@ -87,16 +84,15 @@ value_of header slot none some = go (pair_for slot header)
 
 size_between : (w : Word) → is_size w ≡ true → (1 ≤ number_of w) × (number_of w ≤ 4096)
 size_between w h =
-    let parts = and_parts _ (nat_le (number_of w) 4096) h in
-    let low = and_parts _ (nat_le 1 (number_of w)) parts.0 in
-    (leb-true 1 (number_of w) low.1, leb-true (number_of w) 4096 parts.1)
+    let parts = and_parts _ _ h in
+    (leb-true 1 _ (and_parts _ _ parts.0).1, leb-true _ 4096 parts.1)
 
 -- ---- cells without a fault
 
 height_from : (z : ℤ) → is_height z ≡ true → IsHeight z
 height_from z h =
     let parts = and_parts (int_le lowest z) (int_le z highest) h in
-    (grind (arith, ints, parts.0), grind (arith, ints, parts.1))
+    (grind arith, grind arith)
 
 some_ok : (d : ℕ) (nodata w : Word) (o : Option ℤ) → scaled_value d w ≡ o → is_nodata d nodata w
     ≡ false → is_cell d nodata w ≡ true → IfSome (spelled_cell d nodata w) IsHeight
@@ -104,11 +100,11 @@ some_ok : (d : ℕ) (nodata w : Word) (o : Option ℤ) → scaled_value d w ≡ 
 some_ok d nodata w None e n h = let clash : is_cell d nodata w ≡ false = rw (n, e) refl in
     absurd (cc)
 some_ok d nodata w (Some z) e n h =
-    let high : is_cell d nodata w ≡ is_height z = rw (n, e) refl in
+    let high : is_cell d nodata w ≡ is_height z = rw (n, e) in
     let apart =
-    (or_parts (bytes_eq w nodata) (same_value (scaled_value d w) (scaled_value d nodata)) n).1 in
-    let own : int_eq z z ≡ true = (Decides-int_eq z z).1 refl in
-    let cell : spelled_cell d nodata w ≡ Some z = rw (n, e) refl in
+    (or_parts _ (same_value (scaled_value d w) (scaled_value d nodata)) n).1 in
+    let own = (Decides-int_eq z z).1 refl in
+    let cell : spelled_cell d nodata w ≡ Some z = rw (n, e) in
     rw cell (
       height_from z (sym high ∙ h),
       λ k. let same : same_value (scaled_value d w) (scaled_value d nodata) ≡ int_eq z z =
@@ -120,18 +116,16 @@ cell_ok : (d : ℕ) (nodata w : Word) → is_cell d nodata w ≡ true → IfSome
     IsHeight × IfSome (spelled_cell d nodata w) (λ h. scaled_value d nodata ≢ Some h)
 cell_ok d nodata w h =
     elim (cases_Bool (is_nodata d nodata w)) [
-      | inl none ↦ let cell : spelled_cell d nodata w ≡ None = rw none refl in rw cell (tt, tt)
-      | inr some ↦ some_ok d nodata w (scaled_value d w) refl some h
+      | inl none ↦ let cell : spelled_cell d nodata w ≡ None = rw none in rw cell (tt, tt)
+      | inr some ↦ some_ok d nodata w _ refl some h
     ]
 
 height_ok : (d : ℕ) (header : List Word) (place : ℕ) (w : Word) → height_fault d header place w
     ≡ None → (place < cells_wanted header) × (is_cell d (nodata_for header) w ≡ true)
 height_ok d header place w h =
-    let short = then_none (is_long w) TooLong _ h in
-    let whole = or_none (missing_fault header) _ short.1 in
-    let room = else_none (nat_lt place (cells_wanted header)) _ TooMany whole.1 in
-    let ok = else_none (is_cell d (nodata_for header) w) None (BadHeight place) room.1 in
-    (ltb-true place (cells_wanted header) room.0, ok.0)
+    let whole = or_none _ _ (then_none _ TooLong _ h).1 in
+    let room = else_none _ _ TooMany whole.1 in
+    (ltb-true place _ room.0, (else_none _ None _ room.1).0)
 
 cells_ok : (d : ℕ) (header : List Word) (place : ℕ) (hs : List Word) → place ≤ cells_wanted header →
     heights_fault d header place hs ≡ None → (place + length hs ≤ cells_wanted header) × (All (λ c.
@@ -141,17 +135,17 @@ cells_ok d header place [] h none =
     (omega arith, (λ k x below. absurd (omega arith), λ k x below. absurd (omega arith)))
 cells_ok d header place (w ∷ hs) h none =
     let parts =
-    or_none (height_fault d header place w) (heights_fault d header (place + 1) hs) none in
+    or_none _ _ none in
     let nodata = nodata_for header in
     let first = height_ok d header place w parts.0 in
     let cell = cell_ok d nodata w first.1 in
-    let rest = cells_ok d header (place + 1) hs (omega (arith, first.0)) parts.1 in (
-      omega (arith, rest.0),
+    let rest = cells_ok d header (place + 1) hs (omega arith) parts.1 in (
+      omega arith,
       (
-        All-cons (λ c. IfSome c IsHeight) (spelled_cell d nodata w)
-            (map (spelled_cell d nodata) hs) cell.0 rest.1.0,
-        All-cons (λ c. IfSome c (λ z. scaled_value d nodata ≢ Some z)) (spelled_cell d nodata w)
-            (map (spelled_cell d nodata) hs) cell.1 rest.1.1,
+        All-cons (λ c. IfSome c IsHeight) _
+            (map _ hs) cell.0 rest.1.0,
+        All-cons (λ c. IfSome c (λ z. scaled_value d nodata ≢ Some z)) _
+            (map _ hs) cell.1 rest.1.1,
       ),
     )
 
@@ -163,9 +157,9 @@ end-value j ws slot centre h e =
     let there = at_value j ws h slot centre e in
     let k = there.0 in
     let letter = there.2.letter in
-    let one : header_words (k ∷ []) ≡ k ∷ [] = rw letter refl in
+    let one : header_words (k ∷ []) ≡ k ∷ [] = rw letter in
     let header : header_words ws ≡ flat h.pairs ++ k ∷ [] = ap header_words there.1
-    ∙ (words-flat h.pairs (k ∷ []) h.header.keys).0 ∙ ap (λ z. flat h.pairs ++ z) one in
+    ∙ (words-flat h.pairs (k ∷ []) h.header.keys).0 ∙ ap (flat h.pairs ++◌) one in
     let left : key_left (flat h.pairs ++ k ∷ []) ≡ Some k = key_left-flat h.pairs (k ∷ []) in
     rw (header, left, there.2.key_is) refl
 
@@ -208,10 +202,10 @@ pub end-heights : (j : GridBuilder) (ws : List Word) (h : HasAdded j ws) →
     ≡ cond (nat_lt (length j.cells.items) j.wanted) (Some (TooFew (length j.cells.items))) None
 end-heights j ws h e =
     let there = at_heights j ws h e in
-    let are = words-after j.header h.pairs h.rest h.header there.0 in
-    let place = place_of j h.pairs h.rest there.1 in
+    let are = words-after _ _ _ h.header there.0 in
+    let place = place_of j _ _ there.1 in
     ap end_fault h.words
-    ∙ rw (are.0, paired h.pairs, there.1.whole, are.1, place, there.1.wanted) refl
+    ∙ rw (are.0, paired, there.1.whole, are.1, place, there.1.wanted)
 
 centre_of : (o : Option (Word × Word)) → option_map_or (λ (a : Anchor).
     a.centre) (option_map (λ (p : Word × Word). anchor_at (is_centre p.0) p.1) o) false
@@ -234,17 +228,17 @@ raster_of-grid_of d ps ws hs header heights =
     rw (
       header,
       heights,
-      pairs-flat ps,
-      number-of_pair (given Ncols ps),
-      number-of_pair (given Nrows ps),
-      centre_of (given Xll ps),
-      word_of (given Xll ps),
-      centre_of (given Yll ps),
-      word_of (given Yll ps),
-    ) refl
+      pairs-flat,
+      number-of_pair,
+      number-of_pair,
+      centre_of,
+      word_of,
+      centre_of,
+      word_of,
+    )
 
 nodata_ok : (header : List Word) → header_fault [] header ≡ None → IsHeaderWord (nodata_for header)
-nodata_ok header none = go (value_for Nodata header) (valid [] header Nodata none)
+nodata_ok header none = go _ (valid _ header Nodata none)
   where
     go : (o : Option Word) → IfSome o (IsShortValue Nodata) →
         IsHeaderWord (unwrap_or o (codes "-9999"))
@@ -298,13 +292,12 @@ pub spelled-grid : (j : GridBuilder) (ws : List Word) → HasAdded j ws → j.ex
     raster_of j.header j.scale j.nodata j.cells.items ≡ grid_of j.scale ws
 spelled-grid j ws h e =
     let there = at_heights j ws h e in
-    let are = words-after j.header h.pairs h.rest h.header there.0 in
-    ap (λ x. raster_of x j.scale j.nodata j.cells.items) h.header.slots
-    ∙ ap (raster_of (slots_of h.pairs) j.scale j.nodata) there.1.cells
+    let are = words-after _ _ _ h.header there.0 in
+    rw h.header.slots (ap (raster_of (slots_of h.pairs) j.scale j.nodata) there.1.cells
     ∙ ap (λ n.
     raster_of (slots_of h.pairs) j.scale n (map (spelled_cell j.scale n) h.rest)) there.1.nodata
-    ∙ raster_of-grid_of j.scale h.pairs ws h.rest (ap header_words h.words
-    ∙ are.0) (ap height_words h.words ∙ are.1)
+    ∙ raster_of-grid_of _ _ ws _ (ap header_words h.words
+    ∙ are.0) (ap height_words h.words ∙ are.1))
 
 pub lawful-grid : (j : GridBuilder) (ws : List Word) →
     HasAdded j ws → j.expected ≡ AtHeights → j.scale ≤ 6 → j.wanted ≤ length j.cells.items →

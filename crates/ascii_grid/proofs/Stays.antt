@@ -20,7 +20,7 @@ parted-more : (text : List ℕ) (w : Word) (more : List ℕ) → IsParted text w
     (last : Word) × IsParted (text ++ more) last
 parted-more text w [] h = (w, subst (λ t. IsParted t w) (sym (append-nil text)) h)
 parted-more text w (b ∷ more) h = rw (sym (append_assoc text (b ∷ []) more)) (
-    elim (cases_Bool (is_separator b)) [
+    elim (cases_Bool _) [
       | inl ends ↦ parted-more (text ++ b ∷ []) [] more (IsParted-separator text b ends)
       | inr stays ↦
           parted-more (text ++ b ∷ []) (w ++ b ∷ []) more (IsParted-byte text w b h stays)
@@ -63,8 +63,8 @@ heights_more : (d : ℕ) (header : List Word) (place : ℕ) (hs more : List Word
     heights_fault d header place hs ≡ Some f → heights_fault d header place (hs ++ more) ≡ Some f
 heights_more d header place [] more f h = cc
 heights_more d header place (w ∷ hs) more f h =
-    or_more (height_fault d header place w) (heights_fault d header (place + 1) hs)
-    (heights_fault d header (place + 1) (hs ++ more)) f h
+    or_more _ _
+    _ f h
     (heights_more d header (place + 1) hs more f)
 
 -- the first fault of the words `ws` after `front`, the front of a header with the keys `before`
@@ -76,52 +76,49 @@ after_front-pair : (d : ℕ) (before front : List Word) (k v : Word) (rest : Lis
     begins_with_letter k ≡ true → after_front d before front (k ∷ v ∷ rest) ≡ option_or (key_fault
     before k) (option_or (value_fault k v) (after_front d (k ∷ before) (front ++ k ∷ v ∷ []) rest))
 after_front-pair d before front k v rest letter =
-    let header : header_words (k ∷ v ∷ rest) ≡ k ∷ v ∷ header_words rest = rw letter refl in
-    let heights : height_words (k ∷ v ∷ rest) ≡ height_words rest = rw letter refl in
-    ap (λ z. option_or (header_fault before z)
-    (heights_fault d (front ++ z) 0 (height_words (k ∷ v ∷ rest)))) header
-    ∙ ap (λ z. option_or (header_fault before (k ∷ v ∷ header_words rest))
+    let header : header_words (k ∷ v ∷ rest) ≡ k ∷ v ∷ header_words rest = rw letter in
+    let heights : height_words (k ∷ v ∷ rest) ≡ height_words rest = rw letter in
+    rw header (ap (λ z. option_or (header_fault before (k ∷ v ∷ header_words rest))
     (heights_fault d (front ++ (k ∷ v ∷ header_words rest)) 0 z)) heights
     ∙ ap (λ z. option_or (header_fault before (k ∷ v ∷ header_words rest)) (heights_fault d z 0
     (height_words rest))) (sym (append_assoc front (k ∷ v ∷ []) (header_words rest)))
     ∙ option_or-assoc (key_fault before k)
     (option_or (value_fault k v) (header_fault (k ∷ before) (header_words rest))) _
     ∙ ap (option_or (key_fault before k))
-    (option_or-assoc (value_fault k v) (header_fault (k ∷ before) (header_words rest)) _)
+    (option_or-assoc (value_fault k v) (header_fault (k ∷ before) (header_words rest)) _))
 
 after_front-height : (d : ℕ) (before front : List Word) (k : Word) (rest : List Word) →
     begins_with_letter k ≡ false →
     after_front d before front (k ∷ rest) ≡ heights_fault d (front ++ []) 0 (k ∷ rest)
-after_front-height d before front k [] letter = rw letter refl
-after_front-height d before front k (v ∷ rest) letter = rw letter refl
+after_front-height d before front k [] letter = rw letter
+after_front-height d before front k (v ∷ rest) letter = rw letter
 
 after_front-more : (d : ℕ) (before front ws more : List Word) (f : GridFault) →
     after_front d before front ws ≡ Some f → after_front d before front (ws ++ more) ≡ Some f
 after_front-more d before front [] more f h = cc
 after_front-more d before front (k ∷ []) [] f h = h
 after_front-more d before front (k ∷ []) (v ∷ more) f h =
-    elim (cases_Bool (begins_with_letter k)) [
+    elim (cases_Bool _) [
       | inl letter ↦
           let first : after_front d before front (k ∷ []) ≡ option_or (key_fault before k) None =
-          rw letter refl in
+          rw letter in
           after_front-pair d before front k v more letter
-          ∙ or_more (key_fault before k) None (option_or (value_fault k v) (after_front d
-          (k ∷ before) (front ++ k ∷ v ∷ []) more)) f (sym first ∙ h) (λ e. absurd (cc))
+          ∙ or_more _ None _ f (sym first ∙ h) (λ e. absurd cc)
       | inr height ↦
           after_front-height d before front k (v ∷ more) height
           ∙ heights_more d (front ++ []) 0 (k ∷ []) (v
           ∷ more) f (sym (after_front-height d before front k [] height) ∙ h)
     ]
 after_front-more d before front (k ∷ v ∷ rest) more f h =
-    elim (cases_Bool (begins_with_letter k)) [
+    elim (cases_Bool _) [
       | inl letter ↦
           after_front-pair d before front k v (rest ++ more) letter
           ∙ or_more (key_fault before k) (option_or (value_fault k v)
           (after_front d (k ∷ before) (front ++ k ∷ v ∷ []) rest)) (option_or (value_fault k v)
           (after_front d (k ∷ before) (front ++ k ∷ v ∷ []) (rest ++ more))) f
           (sym (after_front-pair d before front k v rest letter) ∙ h)
-          (λ e. or_more (value_fault k v) (after_front d (k ∷ before) (front ++ k ∷ v ∷ []) rest)
-          (after_front d (k ∷ before) (front ++ k ∷ v ∷ []) (rest ++ more)) f e
+          (λ e. or_more (value_fault k v) _
+          _ f e
           (after_front-more d (k ∷ before) (front ++ k ∷ v ∷ []) rest more f))
       | inr height ↦
           after_front-height d before front k (v ∷ rest ++ more) height
@@ -131,7 +128,7 @@ after_front-more d before front (k ∷ v ∷ rest) more f h =
 
 pub words_fault-more : (d : ℕ) (ws more : List Word) (f : GridFault) → words_fault d ws ≡ Some f →
     words_fault d (ws ++ more) ≡ Some f
-words_fault-more d ws more f h = after_front-more d [] [] ws more f h
+words_fault-more d ws more f h = after_front-more d _ [] ws more f h
 
 -- ---- want of memory
 

@@ -17,7 +17,7 @@ line_short : {X : Type 0} (f : X → List ℕ) (cells : List X) → 0 < length c
     length (f c) ≤ 30) cells → length (join_with_byte 32 (map f cells)) + 1 ≤ 31 * length cells
 line_short f [] h short = absurd (omega arith)
 line_short f (c ∷ []) h short = let here = All-head (λ x. length (f x) ≤ 30) c [] short in
-    omega (arith, here)
+    omega arith
 line_short f (c ∷ d ∷ cells) h short =
     let here = All-head (λ x. length (f x) ≤ 30) c (d ∷ cells) short in
     let rest = line_short f (d ∷ cells) (omega arith)

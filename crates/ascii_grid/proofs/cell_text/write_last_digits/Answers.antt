@@ -15,8 +15,7 @@ loop-done-preserved c =
     let after : 32 - c.loop-done.done ≡ (31 - c.loop-done.done) + 1 = omega arith in
     let within : 31 - c.loop-done.done < length c.loop-done.buffer = search rules in
     record {
-      left = ap (λ n. n / 10) c.loop-done.invariant.left
-          ∙ div_pow_last c.args.size c.loop-done.done;
+      left = rw c.loop-done.invariant.left (div_pow_last _ _);
       written = rw before (digit_before _ _ _ _ _ c.loop-done.invariant.left within
           (rw after at c.loop-done.invariant.written));
     }

@@ -8,24 +8,21 @@ pub loop-count-init : goal.loop-count-init
 loop-count-init c = record {
   limit = refl;
   some = omega arith;
-  long = omega (arith, decimal_nonempty c.args.number (omega (arith, c.ranges.number.fits)));
+  long = omega (arith, decimal_nonempty);
 }
 
 pub returns-then-number-limit-clause-value : goal.returns-then-number-limit-clause-value
 returns-then-number-limit-clause-value c =
     omega (
       arith,
-      c.loop-count.invariant.long,
-      length-decimal-le c.loop-count.count c.args.number c.loop-count.invariant.some
+      length-decimal-le _ c.args.number c.loop-count.invariant.some
           (omega (arith, c.if-number-limit.true, c.loop-count.invariant.limit))
           (omega (arith, c.ranges.number.fits)),
     )
 
 pub overflow_mul-limit : goal.overflow_mul-limit
 overflow_mul-limit c =
-    let few : c.loop-count.count ≤ 18 = omega (arith, c.loop-count-test.true) in
-    let most = pow-le-pow_right {n = 10} (omega arith) {i = c.loop-count.count} {j = 18} few in
-    omega (arith, c.loop-count.invariant.limit, most)
+    omega (arith, pow-le-pow_right {n = 10} (omega arith) {i = c.loop-count.count} {j = 18} (omega arith))
 
 pub loop-count-preserved : goal.loop-count-preserved
 loop-count-preserved c =

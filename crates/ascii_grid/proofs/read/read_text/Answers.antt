@@ -10,12 +10,10 @@ returns-in_err-feed-clause-fault c =
 
 pub returns-clause-grid : goal.returns-clause-grid
 returns-clause-grid c =
-    let scale = c.in_ok-feed.ensures.scale ∙ c.new-reader.ensures.scale in
-    rw scale at (c.finish.ensures.grid c.args.bytes.now
+    rw (c.in_ok-feed.ensures.scale ∙ c.new-reader.ensures.scale) at (c.finish.ensures.grid c.args.bytes.now
     (c.in_ok-feed.ensures.taken [] c.new-reader.ensures.taken))
 
 pub returns-clause-fault : goal.returns-clause-fault
 returns-clause-fault c =
-    let scale = c.in_ok-feed.ensures.scale ∙ c.new-reader.ensures.scale in
-    rw scale at (c.finish.ensures.fault c.args.bytes.now
+    rw (c.in_ok-feed.ensures.scale ∙ c.new-reader.ensures.scale) at (c.finish.ensures.fault c.args.bytes.now
     (c.in_ok-feed.ensures.taken [] c.new-reader.ensures.taken))

@@ -18,4 +18,4 @@ returns c = rw (
   c.yll.ensures.word,
   c.as_bytes.ensures.value,
   c.cellsize.ensures,
-) refl
+)

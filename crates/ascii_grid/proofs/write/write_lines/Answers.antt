@@ -16,6 +16,5 @@ returns-in_err-write_texts g c =
 
 pub returns : goal.returns
 returns g c =
-    let lines = then _ _ _ _ _ _ _ _ (rw (c.as_bytes.ensures, c.header_page.ensures)
-    at c.in_ok-write_all.ensures) c.in_ok-write_texts.ensures in
-    rw append-nil at (then _ _ _ _ _ _ _ _ lines c.flush.ensures)
+    rw append-nil at (then _ _ _ _ _ _ _ _ (then _ _ _ _ _ _ _ _ (rw (c.as_bytes.ensures, c.header_page.ensures)
+    at c.in_ok-write_all.ensures) c.in_ok-write_texts.ensures) c.flush.ensures)

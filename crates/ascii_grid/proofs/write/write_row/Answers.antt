@@ -19,8 +19,8 @@ returns-in_err-write_cell g c =
 
 pub loop-index-preserved : goal.loop-index-preserved
 loop-index-preserved g c =
-    rw (spaced_more _ c.args.cells.now c.index-cells-index.result c.loop-index.index
-    (omega arith) c.index-cells-index.is) (WritesByPage-more _ c.args.out.now c.loop-index.out
+    rw (spaced_more _ _ _ c.loop-index.index
+    (omega arith) c.index-cells-index.is) (WritesByPage-more _ _ _
     c.write_cell.new.out c.args.page.now c.loop-index.page c.write_cell.new.page _ _ _ _
     c.loop-index.invariant c.in_ok-write_cell.ensures)
 

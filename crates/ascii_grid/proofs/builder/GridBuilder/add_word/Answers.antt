@@ -29,11 +29,10 @@ returns-in_err-put-in-AtValue-clause-word c = λ ws h.
 
 pub returns-then-begins_with_letter-clause-word : goal.returns-then-begins_with_letter-clause-word
 returns-then-begins_with_letter-clause-word c = λ ws h.
-    let letter = sym c.begins_with_letter.ensures ∙ c.if-begins_with_letter.true in
     let slot = c.in_ok-key-in-AtKey.ensures.ok in
     judged-key _ _ ws _ _ h c.in-AtKey.is
-    (omega arith) letter slot.0 slot.1 refl
-    (ap (AtValue c.in_ok-key-in-AtKey.key) c.names_centre-centre.ensures)
+    (omega arith) (sym c.begins_with_letter.ensures ∙ c.if-begins_with_letter.true) slot.0 slot.1 refl
+    (rw c.names_centre-centre.ensures refl)
 
 pub returns-in_err-key-in-AtKey-clause-word : goal.returns-in_err-key-in-AtKey-clause-word
 returns-in_err-key-in-AtKey-clause-word c = λ ws h.

@@ -38,6 +38,6 @@ returns-then-place-self c = λ ws h.
 pub returns-else-place-self : goal.returns-else-place-self
 returns-else-place-self c = λ ws h. (
   end-heights _ ws h c.in-AtHeights.is ∙ cond-false _ _ _ (le-ltb
-      (length c.args.self.cells.items) c.args.self.wanted (omega (arith, c.args.self.cells.ok.0))),
+      _ c.args.self.wanted (omega (arith, c.args.self.cells.ok.0))),
   c.into_grid.ensures ∙ spelled-grid _ ws h c.in-AtHeights.is,
 )

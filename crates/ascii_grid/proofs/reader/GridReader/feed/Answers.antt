@@ -10,9 +10,9 @@ returns-in-Some c = Feeds-taken _ _ _ _ (search rules) (λ text h. rw (← c.sel
 pub invariant_of-self : goal.invariant_of-self
 invariant_of-self c =
     let fed = c.self.invariant.1 in
-    let read = c.in-Err.ensures.read fed.0 (as_reading _ fed.0 c.in_default.is fed.1) in (
-      omega (arith, c.in-Err.ensures.scale, c.self.invariant.0),
-      (fed.0 ++ c.args.piece.now, rw c.in-Err.ensures.scale read),
+    (
+      omega arith,
+      (fed.0 ++ c.args.piece.now, rw c.in-Err.ensures.scale (c.in-Err.ensures.read fed.0 (as_reading _ fed.0 c.in_default.is fed.1))),
     )
 
 pub returns-in-Err : goal.returns-in-Err
@@ -23,11 +23,11 @@ returns-in-Err c = Feeds-taken _ _ _ _ (search rules) (λ text h. rw c.in-Err.en
 pub invariant_of-self-in_default-read_piece : goal.invariant_of-self-in_default-read_piece
 invariant_of-self-in_default-read_piece c =
     let fed = c.self.invariant.1 in
-    let call = c.in_default-read_piece.ensures in (
-      omega (arith, call.scale, c.self.invariant.0),
+    (
+      omega arith,
       (
         fed.0 ++ c.args.piece.now,
-        rw c.in_default.is (call.read fed.0 (as_reading _ fed.0 c.in_default.is fed.1)),
+        rw c.in_default.is (c.in_default-read_piece.ensures.read fed.0 (as_reading _ fed.0 c.in_default.is fed.1)),
       ),
     )
 

@@ -10,8 +10,7 @@ use Rattle.ascii_grid.proofs.reader.GridReader.finish.Goals as goal
 pub finish-requires-clause-judged : goal.finish-requires-clause-judged
 finish-requires-clause-judged c =
     let fed = c.self.invariant.1 in
-    let k = is_reading _ fed.0 c.in_default.is fed.1 in
-    (words fed.0, (c.in_ok-end_word.ensures.words fed.0 k.words_of).1)
+    (words fed.0, (c.in_ok-end_word.ensures.words fed.0 (is_reading _ _ c.in_default.is fed.1).words_of).1)
 
 pub returns-in-Some-clause-fault : goal.returns-in-Some-clause-fault
 returns-in-Some-clause-fault c = λ text h.
@@ -22,7 +21,7 @@ returns-in-Some-clause-fault c = λ text h.
 pub returns-in_err-end_word-clause-fault : goal.returns-in_err-end_word-clause-fault
 returns-in_err-end_word-clause-fault c = λ text h.
     let p = err_from_is_err_and c.from_residual.result c.from_residual.ensures.1 in
-    let k = is_reading _ text c.in_default.is (subst (λ r. WasFed r text) (sym c.self.view_is) h) in
+    let k = is_reading _ text c.in_default.is (rw (← c.self.view_is) at h) in
     rw (p.1, p.2, ← c.self.view_is)
     (end_refused _ text _ k.short (c.in_err-end_word.ensures.words text k.words_of))
 

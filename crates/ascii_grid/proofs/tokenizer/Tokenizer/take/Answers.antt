@@ -13,12 +13,11 @@ returns-then-is_separator-clause-words c = λ text h.
 
 pub returns-then-has_room-clause-words : goal.returns-then-has_room-clause-words
 returns-then-has_room-clause-words c = λ text h.
-    let at = sym c.is_separator.ensures ∙ c.if-is_separator.false in
-    words_after_byte _ _ text _ h at refl (c.push_byte.ensures ∙ kept_more
-    h.last _ _ h.front (c.has_room.ensures.0 c.if-has_room.true))
+    words_after_byte _ _ text _ h (sym c.is_separator.ensures ∙ c.if-is_separator.false) refl (c.push_byte.ensures ∙ kept_more
+    _ _ _ h.front (c.has_room.ensures.0 c.if-has_room.true))
 
 pub returns-else-has_room-clause-words : goal.returns-else-has_room-clause-words
 returns-else-has_room-clause-words c = λ text h.
     let at = sym c.is_separator.ensures ∙ c.if-is_separator.false in
     words_after_byte _ _ text _ h at refl
-    (kept_full h.last _ _ h.front (search rules))
+    (kept_full _ _ _ h.front (search rules))

@@ -14,11 +14,11 @@ returns-in_err-take-clause-words c = λ text h.
     (taken_words _ _ _ text c.args.bytes.now _ _ first before h)))
 
 pub loop-at-preserved : goal.loop-at-preserved
-loop-at-preserved c = taken_byte _ _ _ _ c.args.bytes.now _ _ _ _ c.loop-at.invariant
+loop-at-preserved c = taken_byte _ _ _ _ _ _ _ _ _ c.loop-at.invariant
     c.loop-at-test.true refl c.in_ok-take.ensures.scale c.in_ok-take.ensures.words
     c.take_heights-at-in-loop-at.ensures
 
 pub returns-clause-words : goal.returns-clause-words
 returns-clause-words c = λ text h. subst (λ z. HasWords c.loop-at.self (text ++ z))
-    (take_all c.loop-at.at c.args.bytes.now (search rules))
-    (taken_words _ _ _ text c.args.bytes.now _ _ c.take_heights-at.ensures c.loop-at.invariant h)
+    (take_all _ c.args.bytes.now (search rules))
+    (taken_words _ _ _ text _ _ _ c.take_heights-at.ensures c.loop-at.invariant h)
