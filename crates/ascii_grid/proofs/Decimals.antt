@@ -25,7 +25,7 @@ div_pow_last n k = div-div-eq-div-mul n _ 10 ∙ rw (let e : 10 ^ k * 10 ≡ 10 
 pub last_digits-front : (k n : ℕ) → last_digits (suc k) n ≡ (48 + n / 10 ^ k % 10) ∷ last_digits k n
 last_digits-front zero n = ap (λ m. (48 + m % 10) ∷ []) (sym (div-one n))
 last_digits-front (suc k) n =
-    rw (last_digits-front k _) (ap (λ m. (48 + m % 10) ∷ last_digits (suc k) n) (div_pow n k))
+    rw (last_digits-front k _) (rw div_pow refl)
 
 -- if the buffer ends with the last k digits of n, storing the next digit before these gives the
 -- last k + 1 digits
@@ -34,8 +34,7 @@ pub digit_before : (k n left at : ℕ) (buffer : List ℕ) →
     drop at (set buffer at (48 + left % 10)) ≡ last_digits (k + 1) n
 digit_before k n left at buffer e h d =
     drop-set_at buffer at at _ refl h
-    ∙ rw d (ap (λ m. (48 + m % 10) ∷ last_digits k n) e
-    ∙ sym (rw add-one (last_digits-front k n)))
+    ∙ rw d (rw e (sym (rw add-one (last_digits-front k n))))
 
 pub many_digits : (n : ℕ) → n < 2 ^ 64 → (k : ℕ) → 10 ^ k ≤ n → k < length (decimal n)
 many_digits n h = decimal_by_steps (λ m ds. (k : ℕ) → 10 ^ k ≤ m → k < length ds) first next n h

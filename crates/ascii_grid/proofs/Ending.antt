@@ -92,7 +92,7 @@ words_after_separator p text b e k = record {
 more_bytes : (text bytes : List ℕ) (i b : ℕ) → i < length bytes → b ≡ get_or bytes i 0 →
     (text ++ take i bytes) ++ b ∷ [] ≡ text ++ take (i + 1) bytes
 more_bytes text bytes i b inside at =
-    append_assoc text _ _ ∙ rw at (ap (text ++◌) (sym (take_more bytes i 0 inside)))
+    append_assoc text _ _ ∙ rw at (rw (← take_more) refl)
 
 -- a fault that may be reported for the words of a text may be reported, whatever bytes follow
 pub fault_further : (d : ℕ) (text more : List ℕ) (f : GridFault) →
@@ -110,7 +110,7 @@ fault_further d text more f h =
 parted_word : (p : Tokenizer) (text w : List ℕ) (h : HasWords p text) → p.word ≡ [] →
     list_any is_separator w ≡ false → 0 < length w → words (text ++ w) ≡ ended_words text ++ w ∷ []
 parted_word p text w h e none some =
-    h.parted.all w ∙ rw last-none (ap (ended_words text ++◌) (words-plain w none ∙ filter-word w some))
+    h.parted.all w ∙ rw last-none (rw (words-plain w none ∙ filter-word w some) refl)
 
 -- ---- the next bytes of a piece
 

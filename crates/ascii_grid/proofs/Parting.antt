@@ -103,7 +103,7 @@ pub IsParted-separator : (text : List ℕ) (b : ℕ) → is_separator b ≡ true
 IsParted-separator text b e = record {
   plain = refl;
   all = λ more. ap words (append_assoc text _ more) ∙ words-at text more b e
-      ∙ ap (λ z. z ++ words more) (sym (ended_words-separator text b e));
+      ∙ rw (← ended_words-separator text b e) refl;
 }
 
 pub record IsClean (w : List ℕ) : Type 0 where

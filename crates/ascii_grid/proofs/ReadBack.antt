@@ -105,7 +105,7 @@ words-line : (key word value rest : List ℕ) → ((x : List ℕ) → words (key
 words-line key word value rest begins clean =
     ap words (regroup key value _ rest)
     ∙ begins _
-    ∙ ap (word ∷◌) (words-word value rest 10 clean refl) where
+    ∙ rw (words-word value rest 10 clean refl) refl where
       regroup : (a b c d : List ℕ) → ((a ++ b) ++ c) ++ d ≡ a ++ (b ++ (c ++ d))
       regroup a b c d = simp append_assoc
 

@@ -67,7 +67,7 @@ body_fraction (suc d) n h =
 
 length-decimals : (d n : ℕ) → length (decimals_text d n) ≤ d + 1
 length-decimals zero n = omega arith
-length-decimals (suc d) n = omega (arith, length-last_digits (suc d) n)
+length-decimals (suc d) n = omega (arith, length-last_digits)
 
 -- `body` begins with a digit, so it has no sign
 body_unsigned : (d n : ℕ) → n < 2 ^ 64 → (without_sign (body d n) ≡ body d n)
@@ -214,6 +214,4 @@ pub cells_again : (d : ℕ) (nodata : Word) (cells : List (Option ℤ)) →
     map (spelled_cell d nodata) (map (cell_text (height_text d) nodata) cells) ≡ cells
 cells_again d nodata [] reads = refl
 cells_again d nodata (c ∷ cells) reads =
-    let here =
-    All-head (λ c. ReadsAs d nodata c (cell_text (height_text d) nodata c)) c cells reads in
-    rw here.value (ap (c ∷◌) (cells_again d nodata cells (All-tail (λ c. ReadsAs d nodata c (cell_text (height_text d) nodata c)) c cells reads)))
+    rw (All-head (λ c. ReadsAs d nodata c (cell_text (height_text d) nodata c)) c cells reads).value (rw (cells_again d nodata cells (All-tail (λ c. ReadsAs d nodata c (cell_text (height_text d) nodata c)) c cells reads)) refl)

@@ -32,13 +32,12 @@ position-at p (x ∷ xs) ys y h k = let parts = or_parts _ (list_any p xs) h in
 
 pub before_first-at : (p : ℕ → Bool) (xs ys : List ℕ) (y : ℕ) → list_any p xs ≡ false → p y ≡ true →
     before_first p (xs ++ y ∷ ys) ≡ xs
-before_first-at p xs ys y h k = rw (position-at p xs ys y h k) (take_at xs _ _ refl)
+before_first-at p xs ys y h k = rw position-at (take_at xs _ _ refl)
 
 pub after_first-at : (p : ℕ → Bool) (xs ys : List ℕ) (y : ℕ) → list_any p xs ≡ false → p y ≡ true →
     after_first p (xs ++ y ∷ ys) ≡ ys
 after_first-at p xs ys y h k =
-    rw (position-at p xs ys y h k) (ap (drop (length xs + 1)) (sym (append_assoc xs (y ∷ []) ys))
-    ∙ drop_at (xs ++ y ∷ []) ys (length xs + 1) (length-append xs (y ∷ [])))
+    rw (position-at p xs ys y h k) (rw (← append_assoc xs (y ∷ []) ys) (drop_at (xs ++ y ∷ []) ys (length xs + 1) (length-append xs (y ∷ []))))
 
 after_first-step : (p : ℕ → Bool) (b : ℕ) (bs : List ℕ) → p b ≡ false →
     after_first p (b ∷ bs) ≡ after_first p bs
@@ -155,16 +154,13 @@ no_other_letters = record {
 
 marked_mantissa : (b : ℕ) (bs : List ℕ) → is_exponent_mark b ≡ true → mantissa (b ∷ bs) ≡ []
 marked_mantissa b bs h =
-    ap (before_first is_exponent_mark)
-    (cond-false (is_sign b) bs (b ∷ bs) (one_of (λ c. is_sign c ≡ false) b 101 69 h refl refl))
-    ∙ before_first-at is_exponent_mark _ bs b refl h
+    rw (cond-false (is_sign b) bs (b ∷ bs) (one_of (λ c. is_sign c ≡ false) b 101 69 h refl refl)) (before_first-at is_exponent_mark _ bs b refl h)
 
 not_marked : (b : ℕ) (bs : List ℕ) → is_decimal (b ∷ bs) ≡ true → is_exponent_mark b ≡ true → ⊥
 not_marked b bs h k =
     let parts = and_parts _ _ h in
-    let e = ap (λ m. are_digits (before_first is_point m ++ after_first is_point m))
-    (marked_mantissa b bs k) in
-    false≢true (sym e ∙ parts.0)
+    false≢true (sym (ap (λ m. are_digits (before_first is_point m ++ after_first is_point m))
+    (marked_mantissa b bs k)) ∙ parts.0)
 
 pub decimal_begins : (w : List ℕ) → is_decimal w ≡ true → begins_with_letter w ≡ false
 unfolding is_other_letter

@@ -19,7 +19,7 @@ row_split f (c ∷ []) (suc i) h = absurd (omega arith)
 row_split f (c ∷ d ∷ cells) (suc i) h =
     regroup _ _ _
     ∙ ap ((f c ++ 32 ∷ []) ++◌) (row_split f (d ∷ cells) i (omega arith))
-    ∙ sym (append_assoc _ (spaced f (take i (d ∷ cells)))
+    ∙ sym (append_assoc _ _
     (row_text f (drop i (d ∷ cells)))) where
       regroup : (a b c : List ℕ) → (a ++ 32 ∷ b) ++ c ≡ (a ++ 32 ∷ []) ++ (b ++ c)
       regroup a b c = simp append_assoc
@@ -57,7 +57,7 @@ pub rows_text-add : {X : Type 0} (f : X → List ℕ) (cols m n : ℕ) (cells : 
 rows_text-add f cols zero n cells = rw (zero-add, zero-mul)
 rows_text-add {X} f cols (suc m) n cells =
     rw (let e : suc m + n ≡ suc (m + n) = omega arith in e) (ap (row_text f (take cols cells) ++◌) (rows_text-add f cols m n _)
-    ∙ sym (append_assoc (row_text f (take cols cells)) (rows_text f cols m (drop cols cells))
+    ∙ sym (append_assoc _ _
     (rows_text f cols n (drop (m * cols) (drop cols cells))))
     ∙ ap (λ z. (row_text f (take cols cells) ++ rows_text f cols m (drop cols cells))
     ++ rows_text f cols n z) (drop-drop _ cols cells
@@ -84,11 +84,9 @@ pub rows_take : {X : Type 0} (f : X → List ℕ) (cols n : ℕ) (cells : List X
     rows_text f cols n (take (n * cols) cells) ≡ rows_text f cols n cells
 rows_take f cols zero cells = refl
 rows_take {X} f cols (suc n) cells =
-    let front =
-    take-take cols _ cells (omega arith) in
     let back =
     ap (λ k. drop cols (take k cells)) (omega arith) ∙ drop-take cols _ cells in
     ap (λ z. row_text f z
-    ++ rows_text f cols n (drop cols (take (suc n * cols) cells))) front
+    ++ rows_text f cols n (drop cols (take (suc n * cols) cells))) (take-take cols _ cells (omega arith))
     ∙ ap (λ z. row_text f (take cols cells) ++ rows_text f cols n z) back
     ∙ ap (row_text f (take cols cells) ++◌) (rows_take f cols n _)

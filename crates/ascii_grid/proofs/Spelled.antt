@@ -123,8 +123,7 @@ cell_ok d nodata w h =
 height_ok : (d : ℕ) (header : List Word) (place : ℕ) (w : Word) → height_fault d header place w
     ≡ None → (place < cells_wanted header) × (is_cell d (nodata_for header) w ≡ true)
 height_ok d header place w h =
-    let whole = or_none _ _ (then_none _ TooLong _ h).1 in
-    let room = else_none _ _ TooMany whole.1 in
+    let room = else_none _ _ TooMany (or_none _ _ (then_none _ TooLong _ h).1).1 in
     (ltb-true place _ room.0, (else_none _ None _ room.1).0)
 
 cells_ok : (d : ℕ) (header : List Word) (place : ℕ) (hs : List Word) → place ≤ cells_wanted header →
@@ -203,9 +202,8 @@ pub end-heights : (j : GridBuilder) (ws : List Word) (h : HasAdded j ws) →
 end-heights j ws h e =
     let there = at_heights j ws h e in
     let are = words-after _ _ _ h.header there.0 in
-    let place = place_of j _ _ there.1 in
     ap end_fault h.words
-    ∙ rw (are.0, paired, there.1.whole, are.1, place, there.1.wanted)
+    ∙ rw (are.0, paired, there.1.whole, are.1, place_of j _ _ there.1, there.1.wanted)
 
 centre_of : (o : Option (Word × Word)) → option_map_or (λ (a : Anchor).
     a.centre) (option_map (λ (p : Word × Word). anchor_at (is_centre p.0) p.1) o) false
@@ -293,11 +291,10 @@ pub spelled-grid : (j : GridBuilder) (ws : List Word) → HasAdded j ws → j.ex
 spelled-grid j ws h e =
     let there = at_heights j ws h e in
     let are = words-after _ _ _ h.header there.0 in
-    rw h.header.slots (ap (raster_of (slots_of h.pairs) j.scale j.nodata) there.1.cells
-    ∙ ap (λ n.
+    rw h.header.slots (rw there.1.cells (ap (λ n.
     raster_of (slots_of h.pairs) j.scale n (map (spelled_cell j.scale n) h.rest)) there.1.nodata
     ∙ raster_of-grid_of _ _ ws _ (ap header_words h.words
-    ∙ are.0) (ap height_words h.words ∙ are.1))
+    ∙ are.0) (ap height_words h.words ∙ are.1)))
 
 pub lawful-grid : (j : GridBuilder) (ws : List Word) →
     HasAdded j ws → j.expected ≡ AtHeights → j.scale ≤ 6 → j.wanted ≤ length j.cells.items →

@@ -29,16 +29,16 @@ parted-more text w (b ∷ more) h = rw (sym (append_assoc text (b ∷ []) more))
 
 pub ended-words : (text : List ℕ) → (others : List Word) × (words text ≡ ended_words text ++ others)
 ended-words text =
-    let at = parted-more [] [] text IsParted-none in
-    (filter is_word (at.0 ∷ []), words-parted text at.0 at.1)
+    let at = parted-more _ _ text IsParted-none in
+    (filter is_word (at.0 ∷ []), words-parted text _ at.1)
 
 ended-byte : (text : List ℕ) (b : ℕ) → (others : List Word)
     × (ended_words (text ++ b ∷ []) ≡ ended_words text ++ others)
 ended-byte text b =
-    elim (cases_Bool (is_separator b)) [
+    elim (cases_Bool _) [
       | inl ends ↦ let last = ended-words text in
           (last.0, ended_words-separator text b ends ∙ last.1)
-      | inr stays ↦ ([], ended_words-byte text b stays ∙ sym (append-nil (ended_words text)))
+      | inr stays ↦ ([], ended_words-byte text b stays ∙ sym (append-nil _))
     ]
 
 pub ended-more : (front more : List ℕ) → (others : List Word)
@@ -78,14 +78,12 @@ after_front-pair : (d : ℕ) (before front : List Word) (k v : Word) (rest : Lis
 after_front-pair d before front k v rest letter =
     let header : header_words (k ∷ v ∷ rest) ≡ k ∷ v ∷ header_words rest = rw letter in
     let heights : height_words (k ∷ v ∷ rest) ≡ height_words rest = rw letter in
-    rw header (ap (λ z. option_or (header_fault before (k ∷ v ∷ header_words rest))
-    (heights_fault d (front ++ (k ∷ v ∷ header_words rest)) 0 z)) heights
-    ∙ ap (λ z. option_or (header_fault before (k ∷ v ∷ header_words rest)) (heights_fault d z 0
+    rw header (rw heights (ap (λ z. option_or (header_fault before (k ∷ v ∷ header_words rest)) (heights_fault d z 0
     (height_words rest))) (sym (append_assoc front (k ∷ v ∷ []) (header_words rest)))
     ∙ option_or-assoc (key_fault before k)
     (option_or (value_fault k v) (header_fault (k ∷ before) (header_words rest))) _
     ∙ ap (option_or (key_fault before k))
-    (option_or-assoc (value_fault k v) (header_fault (k ∷ before) (header_words rest)) _))
+    (option_or-assoc (value_fault k v) (header_fault (k ∷ before) (header_words rest)) _)))
 
 after_front-height : (d : ℕ) (before front : List Word) (k : Word) (rest : List Word) →
     begins_with_letter k ≡ false →

@@ -16,7 +16,7 @@ returns-then-number-limit-clause-value c =
     omega (
       arith,
       length-decimal-le _ c.args.number c.loop-count.invariant.some
-          (omega (arith, c.if-number-limit.true, c.loop-count.invariant.limit))
+          (omega (arith))
           (omega (arith, c.ranges.number.fits)),
     )
 
@@ -42,10 +42,6 @@ pub returns-clause-value : goal.returns-clause-value
 returns-clause-value c =
     omega (
       arith,
-      c.loop-count-test.false,
-      c.loop-count.invariant.long,
       length-decimal-le 19 c.args.number (omega arith) (omega (arith, c.requires))
           (omega (arith, c.ranges.number.fits)),
-      c.loop-count.auto.count,
-      c.loop-count.auto.count-end,
     )

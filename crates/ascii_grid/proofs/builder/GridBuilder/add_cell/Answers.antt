@@ -9,7 +9,7 @@ use Rattle.ascii_grid.proofs.builder.GridBuilder.add_cell.Goals as goal
 pub returns-then-place-self-clause-word : goal.returns-then-place-self-clause-word
 returns-then-place-self-clause-word c = λ ps hs word h short e.
     let over : cells_wanted (flat ps) ≤ length hs =
-    omega (arith, place_of, h.wanted, c.args.self.now.cells.ok.0) in
+    omega (arith, place_of, c.args.self.now.cells.ok.0) in
     rw (is_short, h.whole, le-ltb)
 
 pub returns-in_default-clause-word : goal.returns-in_default-clause-word
@@ -17,14 +17,13 @@ returns-in_default-clause-word c = λ ps hs word h short e.
     let at : c.len-place.result ≡ length hs =
     omega (arith, place_of, c.args.self.now.cells.ok.0) in
     let room : c.len-place.result < cells_wanted (flat ps) = omega arith in
-    let none = ap (λ n. is_cell c.args.self.now.scale n word) (sym h.nodata)
-    ∙ meaning_nothing _ _ (sym e ∙ c.in_default.is) in
     rw (
       ← at,
       is_short,
       h.whole,
       lt-ltb,
-      none,
+      ap (λ n. is_cell c.args.self.now.scale n word) (sym h.nodata)
+    ∙ meaning_nothing _ _ (sym e ∙ c.in_default.is),
     )
 
 pub returns-clause-word : goal.returns-clause-word

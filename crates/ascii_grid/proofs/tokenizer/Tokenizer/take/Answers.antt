@@ -18,6 +18,5 @@ returns-then-has_room-clause-words c = λ text h.
 
 pub returns-else-has_room-clause-words : goal.returns-else-has_room-clause-words
 returns-else-has_room-clause-words c = λ text h.
-    let at = sym c.is_separator.ensures ∙ c.if-is_separator.false in
-    words_after_byte _ _ text _ h at refl
+    words_after_byte _ _ text _ h (sym c.is_separator.ensures ∙ c.if-is_separator.false) refl
     (kept_full _ _ _ h.front (search rules))
