@@ -22,30 +22,34 @@ no_list : All IsRising ([] ∷ [])
 no_list =
     All-cons IsRising [] [] (λ i k d l low. absurd (omega arith)) (λ k d low. absurd (omega arith))
 
-pub names : (items : List DequeEntry) (views : List Log) (h : Lawful items views) (port : ℕ)
-    (u : Log) →
-    get_elem? views port ≡ some u → CanTake u → (u.jobs ≡ h.jobs) × (u.seats ≡ h.seats)
-    × (u.deque ≡ h.v)
-names items views h port u at can = let n : 0 < u.marks_due = can.0 in
-    (h.views_are port u at).named (inr (omega arith))
+-- What holds of the view w at `port`, and of each other view, holds of each view once w is set.
+among : {P : ℕ → Log → Type 0} (views : List Log) {port : ℕ} (w : Log) → P port w →
+    ((j : ℕ) (v : Log) → j ≢ port → get_elem? views j ≡ some v → P j v) → (j : ℕ) (v : Log) →
+    get_elem? (set views port w) j ≡ some v → P j v
+among {P} views {port} w here others j v e =
+    elim (at_set views port j w v e) [
+      | inl q ↦ subst (λ (y : ℕ × Log). P y.0 y.1) (λ i. (sym q.0 i, q.1 i)) here
+      | inr q ↦ others j v q.0 q.1
+    ]
 
-pub all_pushed : (items : List DequeEntry) (views : List Log) (h : Lawful items views) (port : ℕ)
-    (u : Log) → get_elem? views port ≡ some u → CanTake u →
-    h.pushed ≡ length (feed h.jobs h.seats h.v)
-all_pushed items views h port u at can =
-    let mine = h.views_are port u at in
-    let n = names items views h port u at can in
-    ⊎_elim (λ (r : u.ready ≡ true).
-    (mine.ready r).0) (λ (o : (u.owns ≡ true) × (u.pushed ≡ length (feed u.jobs u.seats u.deque))).
-    sym (mine.owns o.0).1 ∙ rw (n.0, n.1, n.2) at o.1) can.1
+module _ {items : List DequeEntry} {views : List Log} (h : Lawful items views) (port : ℕ) {u : Log}
+    (at : get_elem? views port ≡ some u) (can : CanTake u) where
+  names : (u.jobs ≡ h.jobs) × (u.seats ≡ h.seats) × (u.deque ≡ h.v)
+  names = let n : 0 < u.marks_due = can.0 in (h.views_are port u at).named (inr (omega arith))
 
-left_of_feed : (items : List DequeEntry) (views : List Log)
-    (h : Lawful items views) (port : ℕ) (u : Log) → get_elem? views port ≡ some u → CanTake u →
-    items ≡ drop (sum_over taken views) (feed h.jobs h.seats h.v)
-left_of_feed items views h port u at can =
-    let all = feed h.jobs h.seats h.v in
-    h.held ∙ ap (drop (sum_over taken views))
-    (rw (all_pushed items views h port u at can) (take_all (length all) all (omega arith)))
+  all_pushed : h.pushed ≡ length (feed h.jobs h.seats h.v)
+  all_pushed =
+      let mine = h.views_are port u at in
+      elim can.1 [
+        | inl r ↦ (mine.ready r).0
+        | inr o ↦ sym (mine.owns o.0).1 ∙ rw (names.0, names.1, names.2) at o.1
+      ]
+
+  left_of_feed : items ≡ drop (sum_over taken views) (feed h.jobs h.seats h.v)
+  left_of_feed =
+      let all = feed h.jobs h.seats h.v in
+      h.held ∙ ap (drop (sum_over taken views))
+      (rw all_pushed (take_all (length all) all (omega arith)))
 
 -- A take by a pass that may take (`CanTake`) keeps `Lawful` if the pass's new view w is lawful
 -- (`IsOf`), counts the entry, and has the `share` (end marks due or taken) of its old view u.
@@ -59,8 +63,8 @@ taken_after : (x : DequeEntry) (items : List DequeEntry) (views : List Log)
 taken_after x items views h port u w at can more same jobs ends is =
     let all = feed h.jobs h.seats h.v in
     let t = sum_over taken views in
-    let whole = all_pushed (x ∷ items) views h port u at can in
-    let held = left_of_feed (x ∷ items) views h port u at can in
+    let whole = all_pushed h port at can in
+    let held = left_of_feed h port at can in
     let low = cut_below all t x items held in
     let t' : sum_over taken (set views port w) ≡ suc t =
     (let s = sum_over_set taken views port u w at in omega arith) in
@@ -82,10 +86,7 @@ taken_after x items views h port u w at can more same jobs ends is =
       marks_due =
           (let s = sum_over_set share views port u w at in let old = h.marks_due in omega arith);
       closed = λ _. whole;
-      views_are = λ j v e. ⊎_elim (λ (q : (j ≡ port) × (w ≡ v)). subst (λ (y : ℕ × Log).
-          IsOf h.jobs h.seats h.v h.pushed h.owner y.0 y.1) (λ i. (sym q.0 i, q.1 i)) is)
-          (λ (q : (j ≢ port) × (get_elem? views j ≡ some v)).
-          h.views_are j v q.1) (at_set views port j w v e);
+      views_are = among _ _ is (λ j v _. h.views_are j v);
     }
 
 takes_job : (j : ℕ) (items : List DequeEntry) (views : List Log) (h : Lawful (Job j ∷ items) views)
@@ -95,8 +96,8 @@ takes_job : (j : ℕ) (items : List DequeEntry) (views : List Log) (h : Lawful (
 takes_job j items views h port u at can =
     let t = sum_over taken views in
     let mine = h.views_are port u at in
-    let n = names (Job j ∷ items) views h port u at can in
-    let held = left_of_feed (Job j ∷ items) views h port u at can in
+    let n = names h port at can in
+    let held = left_of_feed h port at can in
     let w : Log = record u { took = u.took ++ j ∷ [] } in
     let some_leave : 0 < u.marks_due = can.0 in
     let early = feed_early h.jobs h.seats h.v t j items held in
@@ -172,7 +173,7 @@ pub never_empty : (port : ℕ) (u : Log) → CanTake u → (views : List Log) �
 never_empty port u can views h at =
     let all = feed h.jobs h.seats h.v in
     let t = sum_over taken views in
-    let held = left_of_feed [] views h port u at can in
+    let held = left_of_feed h port at can in
     let past : length all ≤ t = cut_past all t held in
     let marks : sum_over (λ (v : Log). v.marks) views ≡ h.seats = h.marks
     ∙ ap end_count (take_all t all past) ∙ feed_ends h.jobs h.seats h.v in
@@ -237,14 +238,11 @@ forks port u owns all two items views h at =
           let k = sum_over_append share vs r in
           let old = h.marks_due in omega arith);
       closed = λ _. whole;
-      views_are = λ j v e. ⊎_elim
-          (λ (x : get_elem? vs j ≡ some v).
-          ⊎_elim (λ (q : (j ≡ port) × (l ≡ v)). subst (λ (y : ℕ × Log).
-          IsOf h.jobs h.seats h.v h.pushed h.owner y.0 y.1) (λ i. (sym q.0 i, q.1 i)) left_is)
-          (λ (q : (j ≢ port) × (get_elem? views j ≡ some v)).
-          h.views_are j v q.1) (at_set views port j l v x))
-          (λ (is : r ≡ v). subst (IsOf h.jobs h.seats h.v h.pushed h.owner j) is (right_is j))
-          (at_snoc vs r v j e);
+      views_are = λ j v e.
+          elim (at_snoc vs r v j e) [
+            | inl x ↦ among _ _ left_is (λ j v _. h.views_are j v) j v x
+            | inr is ↦ rw (← is) (right_is j)
+          ];
     }
 
 back_all : (u w : Log) → all_taken (taken_back u w) ≡ all_taken u ++ all_taken w
@@ -259,9 +257,8 @@ merges port u other w owns items views h at two at' =
     let n = mine.named (inl owns) in
     let both : Log = taken_back u w in
     let vs : List Log = set views port both in
-    let was : get_elem? views other ≡ some w = ⊎_elim (λ (q : (other ≡ port) × (both ≡ w)).
-    absurd (two q.0)) (λ (q : (other ≢ port) × (get_elem? views other ≡ some w)).
-    q.1) (at_set views port other both w at') in
+    let was : get_elem? views other ≡ some w =
+    elim (at_set views port other both w at') [ | inl q ↦ absurd (two q.0) | inr q ↦ q.1 ] in
     let theirs = h.views_are other w was in
     let joins : all_taken both ≡ all_taken u ++ all_taken w = back_all u w in
     let sizes : length (all_taken both) ≡ length (all_taken u) + length (all_taken w) =
@@ -309,13 +306,7 @@ merges port u other w owns items views h at two at' =
       marks_due = (let s = sum_over_set share views port u both at in
           let k = sum_over_set share vs other w spent at' in let old = h.marks_due in omega arith);
       closed = rw same h.closed;
-      views_are = λ j v e. ⊎_elim (λ (q : (j ≡ other) × (spent ≡ v)). subst (λ (y : ℕ × Log).
-          IsOf h.jobs h.seats h.v h.pushed h.owner y.0 y.1) (λ i. (sym q.0 i, q.1 i)) spent_is)
-          (λ (q : (j ≢ other) × (get_elem? vs j ≡ some v)).
-          ⊎_elim (λ (r : (j ≡ port) × (both ≡ v)). subst (λ (y : ℕ × Log).
-          IsOf h.jobs h.seats h.v h.pushed h.owner y.0 y.1) (λ i. (sym r.0 i, r.1 i)) both_is)
-          (λ (r : (j ≢ port) × (get_elem? views j ≡ some v)).
-          h.views_are j v r.1) (at_set views port j both v q.1)) (at_set vs other j spent v e);
+      views_are = among _ _ spent_is (λ j v _. among _ _ both_is (λ j v _. h.views_are j v) j v);
     }
 
 -- The owner's view, once all passes are joined to its pass and an end mark was taken.
@@ -405,10 +396,7 @@ pushed_after J S V n e rest items views h port at next none held shares others =
           let old = rw none at h.marks in omega arith);
       marks_due = (let s = sum_over_set share views port u w at in omega arith);
       closed = λ z. absurd (omega arith);
-      views_are = λ j v x. ⊎_elim (λ (q : (j ≡ port) × (w ≡ v)).
-          subst (λ (y : ℕ × Log). IsOf J S V (suc n) port y.0 y.1) (λ i. (sym q.0 i, q.1 i)) w_is)
-          (λ (q : (j ≢ port) × (get_elem? views j ≡ some v)).
-          others j v q.0 q.1) (at_set views port j w v x);
+      views_are = among _ _ w_is others;
     }
 
 none_yet : (t p l : ℕ) → (0 < t → p ≡ l) → p < l → t ≡ 0
@@ -481,7 +469,7 @@ next_is xs items views h port u at can owns whole =
     let weigh : (j : ℕ) (v : Log) → get_elem? views j ≡ some v → share v ≡ 0 → taken v ≡ 0 =
     λ j v e z. (let k = ap length ((h.views_are j v e).idle z) in omega arith) in
     let only = sum_over_alone taken share views port u weigh at alone in
-    (items, rw (n.0, n.1, n.2, ← only) (left_of_feed (xs ++ items) views h port u at can))
+    (items, rw (n.0, n.1, n.2, ← only) (left_of_feed h port at can))
 
 -- If all other passes are joined to the owner's, the owner takes the next entry in the order
 -- pushed.

@@ -53,10 +53,6 @@ loop-s-preserved c =
           let some = (c.requires.ids s d e (omega arith) far).0 in
           w.remove-other.ensures.value ∙ ap (λ l. get_or l 0 other) (same d)
           ∙ get_or_default (get_or was s d).items 0 other e some in
-          let D : ℕ → Type 0 = λ i. (d : _) → (get_or (set rows s row) i d).items
-          ≡ cond (i == v) (get_or was i d).items (drop 1 (get_or was i d).items) in
-          let M : ℕ → Type 0 = λ i. (d : _) (e : EndState) → i ≢ v →
-          (get_or (get_or was i d).items 0 e).marked ≡ true → 0 < n.marks in
           let grew : c.loop-s.closing.marks ≤ n.marks = t.7 in
           rw (w.closing-is, w.rows-is) (record {
             len = inv.len;
@@ -66,10 +62,10 @@ loop-s-preserved c =
             deque = t.3 ∙ inv.deque;
             took = t.4 ∙ inv.took;
             back = rw t.6 (back_else v s c.loop-s.closing.back far inv.back);
-            done = λ i d l. below_more D s (λ i l d.
-                rw (get_or-set_other rows s i row d (λ e. absurd (omega arith))) (inv.done i d l))
+            done = below_more _ s (λ i l d.
+                rw (get_or-set_other rows s i row d (λ e. absurd (omega arith))) (inv.done i l d))
                 (λ d. rw (get_or-set_same rows s row d (omega arith), ne_eqb s v far)
-                (ap (λ r. r) w.remove-other.ensures.items ∙ ap (drop 1) (same d))) i l d;
+                (w.remove-other.ensures.items ∙ ap (drop 1) (same d)));
             kept = λ i d l m. rw (get_or-set_other rows s i row d (λ e. absurd (omega arith)))
                 (inv.kept i d (omega arith) (omega arith));
             counts = λ y f each.
@@ -80,17 +76,12 @@ loop-s-preserved c =
                 let k = sum_else s v f far in
                 omega arith;
             own_mark = λ m. let k = inv.own_mark m in omega arith;
-            marks = λ i d e l f m.
-                below_more M s (λ i l d e f m. let k = inv.marks i d e l f m in omega arith)
-                (λ d e f m. t.8 (ap (λ (q : EndState). q.marked) (other_is d e) ∙ m)) i l d e f m;
+            marks = below_more _ s (λ i l d e f m. let k = inv.marks i l d e f m in omega arith)
+                (λ d e f m. t.8 (ap (λ (q : EndState). q.marked) (other_is d e) ∙ m));
             flag = λ m. let k = inv.flag (sym t.9 ∙ m) in omega arith;
           })
       | else-s-v w ↦
           let here : s ≡ v = grind (arith, common_steps) in
-          let D : ℕ → Type 0 = λ i. (d : _) → (get_or rows i d).items
-          ≡ cond (i == v) (get_or was i d).items (drop 1 (get_or was i d).items) in
-          let M : ℕ → Type 0 = λ i. (d : _) (e : EndState) → i ≢ v →
-          (get_or (get_or was i d).items 0 e).marked ≡ true → 0 < c.loop-s.closing.marks in
           rw (w.closing-is, w.rows-is) (record {
             len = inv.len;
             id = inv.id;
@@ -99,13 +90,12 @@ loop-s-preserved c =
             deque = inv.deque;
             took = inv.took;
             back = back_here v s c.loop-s.closing.back here inv.back;
-            done = λ i d l. below_more D s (λ i l d. inv.done i d l) (λ d.
-                rw (eq-eqb s v here) (inv.kept s d (omega arith) (omega arith))) i l d;
+            done = below_more _ s inv.done
+                (λ d. rw (eq-eqb s v here) (inv.kept s d (omega arith) (omega arith)));
             kept = λ i d l m. inv.kept i d (omega arith) m;
             counts = λ y f each. inv.counts y f each ∙ sym (sum_here s v f here);
             own_mark = inv.own_mark;
-            marks = λ i d e l f m. below_more M s (λ i l d e f m. inv.marks i d e l f m) (λ d e f m.
-                absurd (f here)) i l d e f m;
+            marks = below_more _ s inv.marks (λ d e f m. absurd (f here));
             flag = inv.flag;
           })
     ]
