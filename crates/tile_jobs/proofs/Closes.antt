@@ -57,20 +57,20 @@ deal_one (suc j) seats y low =
 pub times_drop : (y k : ℕ) (xs : List ℕ) → times y (drop k xs) ≤ times y xs
 times_drop y zero xs = omega arith
 times_drop y (suc k) [] = omega arith
-times_drop y (suc k) (x ∷ xs) = let h = times_drop y k xs in omega arith
+times_drop y (suc k) (x ∷ xs) = omega (arith, times_drop y k xs)
 
 pub get_of_drop : {A : Type 0} (xs : List A) (k : ℕ) (d : A) →
     get_or (drop k xs) 0 d ≡ get_or xs k d
-get_of_drop xs k d = get_or-drop k xs 0 d ∙ ap (λ n. get_or xs n d) (add-zero k)
+get_of_drop xs k d = get_or-drop k xs 0 d ∙ rw add-zero refl
 
 pub some_drop : {A : Type 0} (xs : List A) (k : ℕ) → k < length xs → 0 < length (drop k xs)
 some_drop xs k low = omega (arith, length-drop k xs)
 
 pub place_is : (s v : ℕ) → s ≢ v → skip s (v - cond (nat_lt s v) 1 0) ≡ v
-place_is s v far = grind (arith, nat_tests)
+place_is s v far = grind arith
 
 pub place_low : (s v m : ℕ) → s ≢ v → s < suc m → v < suc m → v - cond (nat_lt s v) 1 0 < m
-place_low s v m far low high = grind (arith, nat_tests)
+place_low s v m far low high = grind arith
 
 pub next_row : {A : Type 0} (s v : ℕ) (xs : List A) →
     cond (s == v) (drop (v - cond (nat_lt s v) 1 0) xs)
@@ -78,11 +78,11 @@ pub next_row : {A : Type 0} (s v : ℕ) (xs : List A) →
 next_row s v xs =
     elim (cases_eq s v) [
       | inl e ↦ let at : v - cond (nat_lt s v) 1 0 ≡ v + 1 - cond (nat_lt s (v + 1)) 1 0 =
-          grind (arith, nat_tests) in rw (eq-eqb s v e) (ap (λ k. drop k xs) at)
+          grind arith in rw (eq-eqb s v e) (rw at refl)
       | inr far ↦
           let at : v - cond (nat_lt s v) 1 0 + 1 ≡ v + 1 - cond (nat_lt s (v + 1)) 1 0 =
-          grind (arith, nat_tests) in
-          rw (ne_eqb s v far) (drop-drop 1 (v - cond (nat_lt s v) 1 0) xs ∙ ap (λ k. drop k xs) at)
+          grind arith in
+          rw (ne_eqb s v far) (drop-drop 1 _ xs ∙ rw at refl)
     ]
 
 -- `left` has the jobs left in deques 0 to n - 1.
@@ -156,14 +156,13 @@ module _ (jobs seats : ℕ) (ss : List SeatState) (deal_of_all : IsDeal jobs sea
   pub own_takes : (v : ℕ) (d : SeatState) → v < seats →
       (get_or ss v d).own.took ≡ of v seats (get_or ss v d).taken
   own_takes v d low = let n = deal_of_all.numbers v d low in (each v d low).own_is.3
-      ∙ rw (n.0, n.2) refl
+      ∙ rw (n.0, n.2)
 
   pub head_low : (s v : ℕ) (d : SeatState) → s < seats → v < seats → s ≢ v →
       head s v < length (get_or ss s d).others
   head_low s v d ls lv far =
       let n = deal_of_all.numbers s d ls in
-      let c = (each s d ls).count in
-      place_low s v (length (get_or ss s d).others) far (omega (arith, n.2)) (omega (arith, n.2))
+      place_low s v _ far (omega arith) (omega arith)
 
   pub head_id : (s v : ℕ) (d : SeatState) (e : EndState) → s < seats → v < seats → s ≢ v →
       (get_or (get_or ss s d).others (head s v) e).id ≡ (get_or ss v d).own.id
@@ -178,8 +177,7 @@ module _ (jobs seats : ℕ) (ss : List SeatState) (deal_of_all : IsDeal jobs sea
       (get_or (get_or ss s d).others (head s v) e).took ≡ of v seats (get_or ss s d).taken
   head_took s v d e ls lv far =
       let n = deal_of_all.numbers s d ls in
-      let t = (each s d ls).others_are (head s v) e (head_low s v d ls lv far) in
-      t.3 ∙ rw (n.0, n.2, place_is s v far) refl
+      ((each s d ls).others_are (head s v) e (head_low s v d ls lv far)).3 ∙ rw (n.0, n.2, place_is)
 
 pub all_left : (jobs seats : ℕ) (ss : List SeatState) (left : List ℕ) → 0 < seats →
     IsLeft jobs seats ss seats left → IsClosed jobs seats ss left

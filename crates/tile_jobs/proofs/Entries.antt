@@ -35,17 +35,17 @@ module _ {A : Type 0} where
 
 pub times_append : (x : ℕ) (xs ys : List ℕ) → times x (xs ++ ys) ≡ times x xs + times x ys
 times_append x [] ys = omega arith
-times_append x (y ∷ xs) ys = let h = times_append x xs ys in omega arith
+times_append x (y ∷ xs) ys = omega (arith, times_append x xs ys)
 
 pub jobs_append : (es fs : List DequeEntry) → jobs_of (es ++ fs) ≡ jobs_of es ++ jobs_of fs
 jobs_append [] fs = refl
-jobs_append (Job j ∷ es) fs = ap (λ l. j ∷ l) (jobs_append es fs)
+jobs_append (Job j ∷ es) fs = rw (jobs_append es fs) refl
 jobs_append (End ∷ es) fs = jobs_append es fs
 
 pub ends_append : (es fs : List DequeEntry) → end_count (es ++ fs) ≡ end_count es + end_count fs
 ends_append [] fs = omega arith
 ends_append (Job j ∷ es) fs = ends_append es fs
-ends_append (End ∷ es) fs = let h = ends_append es fs in omega arith
+ends_append (End ∷ es) fs = omega (arith, ends_append es fs)
 
 pub jobs_ends : (n : ℕ) → jobs_of (replicate n End) ≡ []
 jobs_ends zero = refl
@@ -57,7 +57,7 @@ ends_ends (suc n) = ap suc (ends_ends n)
 
 pub jobs_jobs : (d : List ℕ) → jobs_of (jobs_in d) ≡ d
 jobs_jobs [] = refl
-jobs_jobs (j ∷ d) = ap (λ l. j ∷ l) (jobs_jobs d)
+jobs_jobs (j ∷ d) = rw (jobs_jobs d) refl
 
 pub ends_jobs : (d : List ℕ) → end_count (jobs_in d) ≡ 0
 ends_jobs [] = refl
@@ -86,10 +86,10 @@ mark_late [] n zero h = refl
 mark_late [] zero (suc t) h = refl
 mark_late [] (suc n) (suc t) h = no_jobs n t
 mark_late (i ∷ d) n zero h = absurd (omega arith)
-mark_late (i ∷ d) n (suc t) h = ap (λ l. i ∷ l) (mark_late d n t h)
+mark_late (i ∷ d) n (suc t) h = rw (mark_late d n t h) refl
 
 times_self : (x : ℕ) → ◌≡◌ {A = ℕ} (cond (x == x) 1 0) 1
-times_self x = ap (λ b. cond b 1 0) (eq-eqb x x refl)
+times_self x = rw eq-eqb refl
 
 pub times_deal : (j seats v y : ℕ) → times y (deal (suc j) seats v) ≡ times y (deal j seats v)
     + cond (j % seats == v) (cond (j == y) 1 0) 0
@@ -132,7 +132,7 @@ feed_early jobs seats v t j rest e = job_early (deal jobs seats v) seats t j res
 pub feed_late : (jobs seats v t : ℕ) → 0 < end_count (take t (feed jobs seats v)) →
     jobs_of (take t (feed jobs seats v)) ≡ deal jobs seats v
 unfolding feed
-feed_late jobs seats v t h = mark_late (deal jobs seats v) seats t h
+feed_late jobs seats v t h = mark_late _ seats t h
 
 times_at : (xs : List ℕ) (k d : ℕ) → k < length xs → 0 < times (get_or xs k d) xs
 times_at [] k d low = absurd (omega arith)

@@ -27,13 +27,13 @@ of_append v seats (x ∷ xs) ys =
 
 pub of_here : (v seats : ℕ) (xs : List ℕ) (j : ℕ) → j % seats ≡ v →
     of v seats (xs ++ j ∷ []) ≡ of v seats xs ++ j ∷ []
-of_here v seats xs j e = let t : (j % seats == v) ≡ true = eq-eqb (j % seats) v e in
-    of_append v seats xs (j ∷ []) ∙ rw t
+of_here v seats xs j e = let t = eq-eqb _ v e in
+    of_append v seats xs _ ∙ rw t
 
 pub of_else : (v seats : ℕ) (xs : List ℕ) (j : ℕ) → j % seats ≢ v →
     of v seats (xs ++ j ∷ []) ≡ of v seats xs
 of_else v seats xs j e = let t : (j % seats == v) ≡ false = grind (arith, nat_tests, e) in
-    of_append v seats xs (j ∷ []) ∙ rw t (append-nil (of v seats xs))
+    of_append v seats xs _ ∙ rw t (append-nil _)
 
 pub parts_length : (seats : ℕ) (xs : List ℕ) → 0 < seats →
     sum_below (λ v. length (of v seats xs)) seats ≡ length xs
@@ -86,7 +86,7 @@ deal_on_at : (b : Bool) (m seats v j : ℕ) → (m % seats == v) ≡ b →
     × (deal (suc m) seats v ≡ deal j seats v ++ j ∷ more)
 deal_on_at true m seats v j is rest e = (
   rest ++ m ∷ [],
-  rw is (ap (λ l. l ++ m ∷ []) e ∙ append_assoc (deal j seats v) (j ∷ rest) (m ∷ [])),
+  rw is (rw e (append_assoc (deal j seats v) (j ∷ rest) (m ∷ []))),
 )
 deal_on_at false m seats v j is rest e = (rest, rw is e)
 
@@ -95,9 +95,9 @@ pub deal_on : (jobs seats v j : ℕ) → j < jobs → j % seats ≡ v → (rest 
 deal_on zero seats v j low rem = absurd (omega arith)
 deal_on (suc m) seats v j low rem =
     elim (cases_eq j m) [
-      | inl e ↦ ([], ap (λ k. deal (suc k) seats v) (sym e) ∙ rw (eq-eqb (j % seats) v rem) refl)
+      | inl e ↦ ([], ap (λ k. deal (suc k) seats v) (sym e) ∙ rw (eq-eqb _ v rem))
       | inr far ↦ let was = deal_on m seats v j (omega arith) rem in
-          deal_on_at (m % seats == v) m seats v j refl was.0 was.1
+          deal_on_at _ m seats v j refl _ was.1
     ]
 
 drop_here : {A : Type 0} (xs : List A) (y : A) (ys : List A) (n : ℕ) → n ≡ length xs →
@@ -105,8 +105,8 @@ drop_here : {A : Type 0} (xs : List A) (y : A) (ys : List A) (n : ℕ) → n ≡
 drop_here xs y ys n e =
     let a : suc n ≡ length xs + 1 = omega arith in
     let b : n ≡ length xs + 0 = omega arith in
-    ap (λ k. y ∷ drop k (xs ++ y ∷ ys)) a ∙ ap (λ l. y ∷ l) (drop-append-add xs (y ∷ ys) 1)
-    ∙ sym (drop-append-add xs (y ∷ ys) 0) ∙ ap (λ k. drop k (xs ++ y ∷ ys)) (sym b)
+    rw a (ap (λ l. y ∷ l) (drop-append-add xs _ 1)
+    ∙ sym (drop-append-add xs _ 0) ∙ ap (λ k. drop k (xs ++ y ∷ ys)) (sym b))
 
 -- Job j of deque v is the entry of the feed at index n, where n jobs below j are dealt to v.
 pub feed_next_job : (jobs seats v j n : ℕ) → j < jobs → j % seats ≡ v → n ≡ length

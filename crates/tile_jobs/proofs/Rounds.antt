@@ -16,10 +16,10 @@ part_of_round q (suc r) seats v few whole =
     let h = part_of_round q r seats v (omega arith) whole in
     let m = mod-mul-add q seats r (omega arith) in
     let e : q * seats + suc r ≡ suc (q * seats + r) = omega arith in
-    rw e (deal_length (q * seats + r) seats v ∙ rw (m, h) (grind (arith, nat_tests)))
+    rw e (deal_length _ seats v ∙ rw (m, h) (grind (arith, nat_tests)))
 
 whole_rounds : (q seats v : ℕ) → v < seats → length (deal (q * seats) seats v) ≡ q
-whole_rounds zero seats v low = let e : 0 * seats ≡ 0 = omega arith in rw e refl
+whole_rounds zero seats v low = let e : 0 * seats ≡ 0 = omega arith in rw e
 whole_rounds (suc q) seats v low =
     let h = part_of_round q seats seats v (omega arith) (whole_rounds q seats v low) in
     let t : nat_lt v seats ≡ true = grind (arith, nat_tests) in
@@ -29,17 +29,16 @@ whole_rounds (suc q) seats v low =
 pub deal_count : (jobs seats v : ℕ) → v < seats →
     length (deal jobs seats v) ≡ jobs / seats + cond (nat_lt v (jobs % seats)) 1 0
 deal_count jobs seats v low =
-    let r : jobs % seats < seats = omega arith in
     let e : (jobs / seats) * seats + jobs % seats ≡ jobs = let s = mod-add-div' jobs seats in
     omega (arith, s) in
-    ap (λ j. length (deal j seats v)) (sym e) ∙ part_of_round (jobs / seats) (jobs % seats) seats v
-    (omega arith) (whole_rounds (jobs / seats) seats v low)
+    ap (λ j. length (deal j seats v)) (sym e) ∙ part_of_round _ _ seats v
+    (omega arith) (whole_rounds _ seats v low)
 
 pub deal_before_round : (seats v round : ℕ) → v < seats →
     length (deal (v + round * seats) seats v) ≡ round
 deal_before_round seats v round low =
     let e : v + round * seats ≡ round * seats + v = omega arith in
-    let t : nat_lt v v ≡ false = grind (arith, nat_tests) in
+    let t : nat_lt v v ≡ false = grind arith in
     rw e (part_of_round round v seats v (omega arith) (whole_rounds round seats v low)
     ∙ rw t (omega arith))
 

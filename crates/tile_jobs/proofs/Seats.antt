@@ -19,7 +19,7 @@ unmarked_before false b stays e = refl
 kept_took : (a b c : EndState) (j : ℕ) → Kept a b → TookJob b j c → TookJob a j c
 kept_took a b c j x y = record {
   same = same_trans a b c x.0 y.same;
-  unmarked = unmarked_before a.marked b.marked x.2 y.unmarked;
+  unmarked = unmarked_before _ _ x.2 y.unmarked;
   took = y.took ∙ ap (λ l. l ++ j ∷ []) x.1;
   rises = rw (← x.1) y.rises;
   below = rw (← x.0.1) y.below;
@@ -34,15 +34,15 @@ took_among es fs k j e kept len low took = (
   k,
   low,
   (λ d. rw (get_or-set_same fs k e d (omega arith))
-      (kept_took (get_or es k d) (get_or fs k d) e j (kept k d low) (took d))),
+      (kept_took _ _ e j (kept k d low) (took d))),
   (λ i d far l. rw (get_or-set_other fs k i e d far) (kept i d l)),
 )
 
 skip_far : (n k : ℕ) → skip n k ≢ n
-skip_far n k e = grind (arith, nat_tests)
+skip_far n k e = grind arith
 
 skip_apart : (n i k : ℕ) → skip n i ≡ skip n k → i ≡ k
-skip_apart n i k e = grind (arith, nat_tests)
+skip_apart n i k e = grind arith
 
 pub skip_onto : (n v seats : ℕ) → v < suc seats → v ≢ n → n < suc seats → (k : ℕ) × (k < seats)
     × (skip n k ≡ v)
@@ -77,15 +77,15 @@ bounded s h v low =
     ]
 
 pub skip_below : (n k m : ℕ) → suc k < m → n < m → skip n k < m
-skip_below n k m low below = grind (arith, nat_tests)
+skip_below n k m low below = grind arith
 
 pub own_took : (s : SeatState) (j : ℕ) (o : EndState) → IsSeat s → TookJob s.own j o →
     IsSeat (record s { own = o; taken = s.taken ++ j ∷ [] })
 own_took s j o h t =
-    let is : j % s.own.seats ≡ s.number = t.of_deque ∙ h.own_is.2 in
-    let took : o.took ≡ of s.number s.own.seats (s.taken ++ j ∷ []) = t.took
-    ∙ ap (λ l. l ++ j ∷ []) h.own_is.3 ∙ sym (of_here s.number s.own.seats s.taken j is) in
-    let length_is : length o.took ≤ length (deal s.own.jobs s.own.seats s.number) =
+    let is = t.of_deque ∙ h.own_is.2 in
+    let took = t.took
+    ∙ ap (λ l. l ++ j ∷ []) h.own_is.3 ∙ sym (of_here _ _ _ j is) in
+    let length_is =
     rw h.own_is.2 at t.fits in
     record {
       below = rw t.same.2 h.below;
@@ -95,8 +95,8 @@ own_took s j o h t =
         was.0,
         was.1,
         was.2,
-        was.3 ∙ sym (of_else (skip s.number k) s.own.seats s.taken j
-            (λ e. skip_far s.number k (sym e ∙ is))),
+        was.3 ∙ sym (of_else _ _ _ j
+            (λ e. skip_far _ k (sym e ∙ is))),
         was.4,
       ));
     }
@@ -168,8 +168,7 @@ pub others_rise : (s : SeatState) (j : ℕ) (fs : List EndState) → IsSeat s �
 others_rise s j fs h t =
     let was = h.others_are t.0 s.own t.1 in
     let now = t.2 s.own in
-    let is : j % s.own.seats ≡ skip s.number t.0 = rw (was.1, was.2) at now.of_deque in
-    rw (is, ← was.3) now.rises
+    rw (rw (was.1, was.2) at now.of_deque, ← was.3) now.rises
 
 pub others_room : (s : SeatState) (j : ℕ) (fs : List EndState) → IsSeat s →
     TookAmong s.others j fs → length s.taken < s.own.jobs
@@ -191,14 +190,14 @@ pub without_last : {A : Type 0} (xs : List A) (n : ℕ) (x : A) → n ≡ length
 without_last [] zero x e = refl
 without_last [] (suc n) x e = absurd (omega arith)
 without_last (y ∷ ys) zero x e = absurd (omega arith)
-without_last (y ∷ ys) (suc n) x e = ap (λ l. y ∷ l) (without_last ys n x (omega arith))
+without_last (y ∷ ys) (suc n) x e = rw (without_last ys n x (omega arith)) refl
 
 pub without_more : {A : Type 0} (xs : List A) (n : ℕ) (x : A) → n ≢ length xs →
     without n (xs ++ x ∷ []) ≡ without n xs ++ x ∷ []
 without_more [] zero x far = absurd (far refl)
 without_more [] (suc n) x far = refl
 without_more (y ∷ ys) zero x far = refl
-without_more (y ∷ ys) (suc n) x far = ap (λ l. y ∷ l) (without_more ys n x (λ e. far (ap suc e)))
+without_more (y ∷ ys) (suc n) x far = rw (without_more ys n x (λ e. far (ap suc e))) refl
 
 pub without_length : {A : Type 0} (xs : List A) (n : ℕ) → n < length xs →
     suc (length (without n xs)) ≡ length xs
@@ -224,8 +223,8 @@ pub get_without : {A : Type 0} (xs : List A) (n k : ℕ) (d : A) →
     get_or (without n xs) k d ≡ get_or xs (skip n k) d
 get_without xs n k d =
     elim (cases_lt k n) [
-      | inl l ↦ rw (lt-ltb k n l) (without_before xs n k d l)
-      | inr l ↦ rw (le-ltb k n l) (without_behind xs n k d l)
+      | inl l ↦ rw lt-ltb (without_before xs n k d l)
+      | inr l ↦ rw le-ltb (without_behind xs n k d l)
     ]
 
 pub get_snoc : {A : Type 0} (P : ℕ → A → Type 0) (xs : List A) (x : A) →
@@ -235,7 +234,7 @@ get_snoc P [] x all here zero d low = here
 get_snoc P [] x all here (suc j) d low = absurd (omega arith)
 get_snoc P (y ∷ ys) x all here zero d low = all zero d (omega arith)
 get_snoc P (y ∷ ys) x all here (suc j) d low =
-    get_snoc (λ n. P (suc n)) ys x (λ k d l. all (suc k) d (omega arith)) here j d (omega arith)
+    get_snoc (λ n. P (suc n)) ys x (λ k d l. all _ d (omega arith)) here j d (omega arith)
 
 pub fresh_more : (jobs seats : ℕ) (xs : List EndState) (x : EndState) → AllFresh jobs seats xs →
     IsFresh jobs seats (length xs) x → AllFresh jobs seats (xs ++ x ∷ [])
@@ -276,8 +275,7 @@ deal_ends jobs seats es ss all count size each = record {
       λ s d low. rw (each s d d.own low) (let f = all s d.own (omega arith) in (refl, f.0, f.1));
   others = λ s d low. rw (each s d d.own low) (without_length es s (omega arith) ∙ count);
   ends = λ s k d e low low'.
-      let at : skip s k < seats = skip_below s k seats low' low in
-      rw (each s d e low, each (skip s k) d e at, get_without) refl;
+      rw (each s d e low, each _ d e (skip_below s k seats low' low), get_without);
 }
 
 pub without_cond : (xs : List EndState) (n v : ℕ) (x : EndState) → v ≡ length xs →
@@ -297,10 +295,8 @@ deal_same jobs seats ss ts h size same = record {
       (t.0 ∙ n.0, t.1.1 ∙ n.1, t.1.2 ∙ n.2);
   others = λ s d low. ap suc (same s d low).2 ∙ h.others s d low;
   ends = λ s k d e low low'.
-      let few = h.others s d low in
       let mine = (same s d low).3 k e (omega arith) in
-      let at : skip s k < seats = skip_below s k seats low' low in
-      let theirs = (same (skip s k) d at).1 in
+      let theirs = (same _ d (skip_below s k seats low' low)).1 in
       mine.0 ∙ h.ends s k d e low low' ∙ sym theirs.0;
 }
 

@@ -20,7 +20,7 @@ use Rattle.tile_jobs.proofs.Entries.{cut_take, cut_drop, cut_below, cut_past, ti
 
 no_list : All IsRising ([] ∷ [])
 no_list =
-    All-cons IsRising [] [] (λ i k d l low. absurd (omega arith)) (λ k d low. absurd (omega arith))
+    All-cons IsRising _ [] (λ i k d l low. absurd (omega arith)) (λ k d low. absurd (omega arith))
 
 -- What holds of the view w at `port`, and of each other view, holds of each view once w is set.
 among : {P : ℕ → Log → Type 0} (views : List Log) {port : ℕ} (w : Log) → P port w →
@@ -35,7 +35,7 @@ among {P} views {port} w here others j v e =
 module _ {items : List DequeEntry} {views : List Log} (h : Lawful items views) (port : ℕ) {u : Log}
     (at : get_elem? views port ≡ some u) (can : CanTake u) where
   names : (u.jobs ≡ h.jobs) × (u.seats ≡ h.seats) × (u.deque ≡ h.v)
-  names = let n : 0 < u.marks_due = can.0 in (h.views_are port u at).named (inr (omega arith))
+  names = let n = can.0 in (h.views_are port u at).named (inr (omega arith))
 
   all_pushed : h.pushed ≡ length (feed h.jobs h.seats h.v)
   all_pushed =
@@ -49,7 +49,7 @@ module _ {items : List DequeEntry} {views : List Log} (h : Lawful items views) (
   left_of_feed =
       let all = feed h.jobs h.seats h.v in
       h.held ∙ ap (drop (sum_over taken views))
-      (rw all_pushed (take_all (length all) all (omega arith)))
+      (rw all_pushed (take_all _ all (omega arith)))
 
 -- A take by a pass that may take (`CanTake`) keeps `Lawful` if the pass's new view w is lawful
 -- (`IsOf`), counts the entry, and has the `share` (end marks due or taken) of its old view u.
@@ -246,8 +246,7 @@ forks port u owns all two items views h at =
     }
 
 back_all : (u w : Log) → all_taken (taken_back u w) ≡ all_taken u ++ all_taken w
-back_all u w = ap (λ l. u.took ++ l) (concat-append u.gathered (w.took ∷ w.gathered))
-    ∙ sym (append_assoc u.took (concat u.gathered) (all_taken w))
+back_all u w = rw (concat-append u.gathered (w.took ∷ w.gathered)) (sym (append_assoc u.took (concat u.gathered) (all_taken w)))
 
 -- Joining a pass to the owner's keeps `Lawful`.
 pub merges : (port : ℕ) (u : Log) (other : ℕ) (w : Log) → u.owns ≡ true →
@@ -401,7 +400,7 @@ pushed_after J S V n e rest items views h port at next none held shares others =
 
 none_yet : (t p l : ℕ) → (0 < t → p ≡ l) → p < l → t ≡ 0
 none_yet zero p l closed low = refl
-none_yet (suc t) p l closed low = let e = closed (omega arith) in absurd (omega arith)
+none_yet (suc t) p l closed low = absurd (omega arith)
 
 pub pushes : (J S V n port : ℕ) (e : DequeEntry) (rest : List DequeEntry) →
     e ∷ rest ≡ drop n (feed J S V) →

@@ -42,7 +42,7 @@ sum_below-few f (suc n) le =
 pub term-le-sum_below : (f : ℕ → ℕ) (n i : ℕ) → i < n → f i ≤ sum_below f n
 term-le-sum_below f zero i h = absurd (omega arith)
 term-le-sum_below f (suc n) i h = elim (cases_eq i n) [
-  | inl e ↦ (let same : f i ≡ f n = ap f e in omega arith)
+  | inl e ↦ (let same = ap f e in omega arith)
   | inr ne ↦ omega (arith, term-le-sum_below f n i (omega arith))
 ]
 
@@ -77,22 +77,22 @@ sum_below-except f g (suc n) i h same = elim (cases_eq i n) [
 
 pub some_term : (f : ℕ → ℕ) (n : ℕ) → 0 < sum_below f n → (i : ℕ) × (i < n) × (0 < f i)
 some_term f zero h = absurd (omega arith)
-some_term f (suc n) h = elim (cases_lt 0 (f n)) [
+some_term f (suc n) h = elim (cases_lt 0 _) [
   | inl l ↦ (n, omega arith, l)
-  | inr none ↦ (let r = some_term f n (omega arith) in (r.0, omega (arith, r.1), r.2))
+  | inr none ↦ (let r = some_term f n (omega arith) in (r.0, omega arith, r.2))
 ]
 
 pub sum_more : (f : ℕ → ℕ) (n : ℕ) → sum_below f (n + 1) ≡ sum_below f n + f n
-sum_more f n = rw add-one refl
+sum_more f n = rw add-one
 
 pub sum_below-split : (f : ℕ → ℕ) (a n : ℕ) →
     sum_below f (a + n) ≡ sum_below f a + sum_below (λ i. f (a + i)) n
-sum_below-split f a zero = ap (sum_below f) (add-zero a) ∙ omega arith
+sum_below-split f a zero = rw (add-zero a) (omega arith)
 sum_below-split f a (suc n) =
     let next : a + suc n ≡ suc (a + n) = omega arith in
-    let rest : sum_below f (a + n) ≡ sum_below f a + sum_below (λ i. f (a + i)) n =
+    let rest =
     sum_below-split f a n in
-    ap (sum_below f) next ∙ omega arith
+    rw next (omega arith)
 
 pub sum_below-part : (f : ℕ → ℕ) (k n : ℕ) → k ≤ n → sum_below f k ≤ sum_below f n
 sum_below-part f k n le =

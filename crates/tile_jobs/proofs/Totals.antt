@@ -22,12 +22,12 @@ sum_over_at f (u ∷ us) (suc port) v e = let h = sum_over_at f us port v e in o
 pub sum_over_append : (f : Log → ℕ) (views : List Log) (w : Log) →
     sum_over f (views ++ w ∷ []) ≡ sum_over f views + f w
 sum_over_append f [] w = omega arith
-sum_over_append f (u ∷ us) w = let h = sum_over_append f us w in omega arith
+sum_over_append f (u ∷ us) w = omega (arith, sum_over_append f us w)
 
 pub sum_over_plus : (f g : Log → ℕ) (views : List Log) →
     sum_over (λ u. f u + g u) views ≡ sum_over f views + sum_over g views
 sum_over_plus f g [] = refl
-sum_over_plus f g (u ∷ us) = let h = sum_over_plus f g us in omega arith
+sum_over_plus f g (u ∷ us) = omega (arith, sum_over_plus f g us)
 
 pub sum_over_none : (f g : Log → ℕ) (views : List Log) → ((j : ℕ) (u : Log) →
     get_elem? views j ≡ some u → g u ≡ 0 → f u ≡ 0) → sum_over g views ≡ 0 → sum_over f views ≡ 0

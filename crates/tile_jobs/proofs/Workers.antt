@@ -18,7 +18,7 @@ seat_trans a b c x y = (
   y.0 ∙ x.0,
   same_trans a.own b.own c.own x.1 y.1,
   y.2 ∙ x.2,
-  λ k d low. let l = x.2 in same_trans (get_or a.others k d) (get_or b.others k d)
+  λ k d low. same_trans (get_or a.others k d) (get_or b.others k d)
       (get_or c.others k d) (x.3 k d low) (y.3 k d (omega arith)),
 )
 
@@ -27,8 +27,8 @@ module _ {O : Type 0} where
       (job == j) ≡ b → a.job ≡ job → (0 < times j taken → HasResult list j) →
       0 < times j taken + (cond b 1 0 + 0) → HasResult (list ++ a ∷ []) j
   whole_at true j job taken list a is e old n =
-      answered_last list a j (e ∙ grind (arith, nat_tests))
-  whole_at false j job taken list a is e old n = answered_more list (a ∷ []) j (old (omega arith))
+      answered_last list a j (e ∙ grind arith)
+  whole_at false j job taken list a is e old n = answered_more list _ j (old (omega arith))
 
   pub whole_more : (j job : ℕ) (taken : List ℕ) (list : List (JobResult O)) (a : JobResult O) →
       a.job ≡ job → (0 < times j taken → HasResult list j) → 0 < times j (taken ++ job ∷ []) →
@@ -40,5 +40,5 @@ module _ {O : Type 0} where
       (s t : SeatState) (result : Result (WorkerResult O) JobFault) → IsOutcome gives s result →
       IsOkAnd result (λ output. t ≡ output.seat) → SameSeat s t × HasAllMarks t
   back_same gives s t (Ok output) out e =
-      (subst (SameSeat s) (sym e) out.0.same, subst HasAllMarks (sym e) out.0.empty)
+      (rw (← e) at out.0.same, subst HasAllMarks (sym e) out.0.empty)
   back_same gives s t (Err f) out e = absurd e

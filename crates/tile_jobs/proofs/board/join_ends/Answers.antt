@@ -12,15 +12,14 @@ use Rattle.tile_jobs.proofs.board.join_ends.Goals.{then-s-v, else-s-v}
 
 pub remove-other-requires : goal.remove-other-requires
 remove-other-requires c =
-    let far : c.loop-s.s ≢ c.args.v = c.if-s-v.true in
-    let at : c.index_mut.result.now ≡ get_or c.loop-s.rows.items c.loop-s.s c.index_mut.result.now =
+    let far = c.if-s-v.true in
+    let at =
     c.index_mut.ensures.value in
     let same = c.loop-s.invariant.kept c.loop-s.s c.index_mut.result.now (omega arith)
     (grind (arith, common_steps)) in
     let some = (c.requires.ids c.loop-s.s c.index_mut.result.now c.args.own
     (grind (arith, common_steps)) far).0 in
-    let items : c.index_mut.result.now.items
-    ≡ (get_or c.args.rows.now.items c.loop-s.s c.index_mut.result.now).items = ap (λ v. v.items) at
+    let items = ap (λ v. v.items) at
     ∙ same in
     let size : vec_len c.index_mut.result.now ≡ length c.index_mut.result.now.items =
     search rules in
@@ -101,6 +100,5 @@ loop-s-preserved c =
     ]
 
 pub returns-clause-times : goal.returns-clause-times
-returns-clause-times c = λ y f each. let end : c.loop-s.s ≡ vec_len c.args.rows.now =
-    grind (arith, common_steps) in c.loop-s.invariant.counts y f each
-    ∙ ap (λ n. sum_below (λ i. cond (i == c.args.v) 0 (f i)) n) end
+returns-clause-times c = λ y f each. c.loop-s.invariant.counts y f each
+    ∙ ap (sum_below (λ i. cond (i == c.args.v) 0 (f i))) (grind arith)
