@@ -20,21 +20,20 @@ pub div_pow : (n k : ℕ) → n / 10 / 10 ^ k ≡ n / 10 ^ (suc k)
 div_pow n k = div-div-eq-div-mul n 10 _ ∙ rw (← pow-succ') refl
 
 pub div_pow_last : (n k : ℕ) → n / 10 ^ k / 10 ≡ n / 10 ^ (k + 1)
-div_pow_last n k = div-div-eq-div-mul n _ 10 ∙ rw (let e : 10 ^ k * 10 ≡ 10 ^ (k + 1) = rw (add-one, pow-succ') (omega arith) in e) refl
+div_pow_last n k =
+    div-div-eq-div-mul n _ 10 ∙
+    rw (let e : 10 ^ k * 10 ≡ 10 ^ (k + 1) = rw (add-one, pow-succ') (omega arith) in e) refl
 
 pub last_digits-front : (k n : ℕ) → last_digits (suc k) n ≡ (48 + n / 10 ^ k % 10) ∷ last_digits k n
 last_digits-front zero n = ap (λ m. (48 + m % 10) ∷ []) (sym (div-one n))
-last_digits-front (suc k) n =
-    rw (last_digits-front k _) (rw div_pow refl)
+last_digits-front (suc k) n = rw (last_digits-front k _) (rw div_pow refl)
 
 -- if the buffer ends with the last k digits of n, storing the next digit before these gives the
 -- last k + 1 digits
-pub digit_before : (k n left at : ℕ) (buffer : List ℕ) →
-    left ≡ n / 10 ^ k → at < length buffer → drop (at + 1) buffer ≡ last_digits k n →
-    drop at (set buffer at (48 + left % 10)) ≡ last_digits (k + 1) n
+pub digit_before : (k n left at : ℕ) (buffer : List ℕ) → left ≡ n / 10 ^ k → at < length buffer →
+    drop (at + 1) buffer ≡ last_digits k n → drop at (set buffer at (48 + left % 10)) ≡ last_digits (k + 1) n
 digit_before k n left at buffer e h d =
-    drop-set_at buffer at at _ refl h
-    ∙ rw d (rw e (sym (rw add-one (last_digits-front k n))))
+    drop-set_at buffer at at _ refl h ∙ rw d (rw e (sym (rw add-one (last_digits-front k n))))
 
 pub many_digits : (n : ℕ) → n < 2 ^ 64 → (k : ℕ) → 10 ^ k ≤ n → k < length (decimal n)
 many_digits n h = decimal_by_steps (λ m ds. (k : ℕ) → 10 ^ k ≤ m → k < length ds) first next n h
@@ -49,8 +48,8 @@ many_digits n h = decimal_by_steps (λ m ds. (k : ℕ) → 10 ^ k ≤ m → k < 
       pow-le-pow_right {n = 10} (omega arith) {i = 0} {j = k} (omega arith),
     ))
 
-    next : (m : ℕ) (ds : List ℕ) → 10 ≤ m → ((k : ℕ) → 10 ^ k ≤ m / 10 → k < length ds) → (k : ℕ) →
-        10 ^ k ≤ m → k < length (ds ++ (48 + m % 10) ∷ [])
+    next : (m : ℕ) (ds : List ℕ) → 10 ≤ m → ((k : ℕ) → 10 ^ k ≤ m / 10 → k < length ds) → (k : ℕ) → 10 ^ k ≤ m →
+        k < length (ds ++ (48 + m % 10) ∷ [])
     next m ds more longer zero le = omega (arith, length-append ds ((48 + m % 10) ∷ []))
     next m ds more longer (suc k) le =
         let rest : 10 ^ k ≤ m / 10 = omega arith in
@@ -64,39 +63,32 @@ last_value n m e = omega arith
 
 pub decimal_value : (n : ℕ) → n < 2 ^ 64 → number_of (decimal n) ≡ n
 decimal_value n h =
-    decimal_by_steps (λ m ds. number_of ds ≡ m)
-    (λ m k. omega arith)
-    (λ m ds k e. number_of-push ds _ ∙ last_value m _ e)
-    n h
+    decimal_by_steps (λ m ds. number_of ds ≡ m) (λ m k. omega arith)
+    (λ m ds k e. number_of-push ds _ ∙ last_value m _ e) n h
 
 digit_of : (m : ℕ) → m < 10 → is_ascii_digit (48 + m) ≡ true
-digit_of m h = and_from _ _ (le-leb 48 _ (omega arith))
-    (le-leb (48 + m) 57 (omega arith))
+digit_of m h = and_from _ _ (le-leb 48 _ (omega arith)) (le-leb (48 + m) 57 (omega arith))
 
 digits_push : (ds : List ℕ) (m : ℕ) → m < 10 → list_all is_ascii_digit ds ≡ true →
     list_all is_ascii_digit (ds ++ (48 + m) ∷ []) ≡ true
 digits_push ds m h k =
-    list_all-append is_ascii_digit ds ((48 + m) ∷ [])
-    ∙ and_from _ _ k
-    (and_from _ true (digit_of m h) refl)
+    list_all-append is_ascii_digit ds ((48 + m) ∷ []) ∙ and_from _ _ k (and_from _ true (digit_of m h) refl)
 
-pub decimal_digits : (n : ℕ) → n < 2 ^ 64 → list_all is_ascii_digit (decimal n) ≡ true
-decimal_digits n h =
-    decimal_by_steps (λ m ds. list_all is_ascii_digit ds ≡ true)
-    (λ m k. digits_push [] m k refl)
-    (λ m ds k e. digits_push ds _ (omega arith) e)
-    n h
+module _ (n : ℕ) where
+  pub decimal_digits : n < 2 ^ 64 → list_all is_ascii_digit (decimal n) ≡ true
+  decimal_digits h =
+      decimal_by_steps (λ m ds. list_all is_ascii_digit ds ≡ true) (λ m k. digits_push [] m k refl)
+      (λ m ds k e. digits_push ds _ (omega arith) e) n h
 
-pub decimal_word : (n : ℕ) → n < 2 ^ 64 → is_word (decimal n) ≡ true
-decimal_word n h = some _ (decimal_nonempty n h)
-  where
-    some : (ds : List ℕ) → 0 < length ds → is_word ds ≡ true
-    some [] h = absurd (omega arith)
-    some (d ∷ ds) h = refl
+  pub decimal_word : n < 2 ^ 64 → is_word (decimal n) ≡ true
+  decimal_word h = some _ (decimal_nonempty n h)
+    where
+      some : (ds : List ℕ) → 0 < length ds → is_word ds ≡ true
+      some [] h = absurd (omega arith)
+      some (d ∷ ds) h = refl
 
-pub decimal_are_digits : (n : ℕ) → n < 2 ^ 64 → are_digits (decimal n) ≡ true
-decimal_are_digits n h = and_from _ _
-    (decimal_word n h) (decimal_digits n h)
+  pub decimal_are_digits : n < 2 ^ 64 → are_digits (decimal n) ≡ true
+  decimal_are_digits h = and_from _ _ (decimal_word h) (decimal_digits h)
 
 pub last_digits_digits : (d n : ℕ) → list_all is_ascii_digit (last_digits d n) ≡ true
 last_digits_digits zero n = refl
@@ -110,12 +102,9 @@ length-last_digits (suc d) n =
     omega (arith, e, length-append (last_digits d (n / 10)) ((48 + n % 10) ∷ []))
 
 pub scaled_digits : (d n : ℕ) → n < 2 ^ 64 → number_of (decimal (n / 10 ^ d) ++ last_digits d n) ≡ n
-scaled_digits zero n h = ap number_of (append-nil (decimal (n / 10 ^ 0)))
-    ∙ rw div-one (decimal_value n h)
+scaled_digits zero n h = ap number_of (append-nil (decimal (n / 10 ^ 0))) ∙ rw div-one (decimal_value n h)
 scaled_digits (suc d) n h =
     let small : n / 10 < 2 ^ 64 = omega arith in
-    ap number_of
-    (sym (append_assoc (decimal (n / 10 ^ suc d)) (last_digits d (n / 10)) ((48 + n % 10) ∷ [])))
-    ∙ number_of-push (decimal (n / 10 ^ suc d) ++ last_digits d (n / 10)) (48 + n % 10)
-    ∙ rw (← div_pow) (last_value n _
-    (scaled_digits d _ small))
+    ap number_of (sym (append_assoc (decimal (n / 10 ^ suc d)) (last_digits d (n / 10)) ((48 + n % 10) ∷ []))) ∙
+    number_of-push (decimal (n / 10 ^ suc d) ++ last_digits d (n / 10)) (48 + n % 10) ∙
+    rw (← div_pow) (last_value n _ (scaled_digits d _ small))

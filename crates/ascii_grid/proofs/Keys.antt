@@ -21,15 +21,12 @@ AreOf slot [] = Unit {0}
 AreOf slot (key ∷ keys) = (slot_at key ≡ Some slot) × AreOf slot keys
 
 keys_are : (slot : Key) → AreOf slot (keys_of slot)
-keys_are Ncols = (refl, tt)
-keys_are Nrows = (refl, tt)
 keys_are Xll = (refl, (refl, tt))
 keys_are Yll = (refl, (refl, tt))
-keys_are Cellsize = (refl, tt)
-keys_are Nodata = (refl, tt)
+keys_are slot = (refl, tt)
 
-among : (slot : Key) (keys : List Word) (w : Word) → AreOf slot keys →
-    list_any (λ key. bytes_eq key w) keys ≡ true → slot_at w ≡ Some slot
+among : (slot : Key) (keys : List Word) (w : Word) → AreOf slot keys → list_any (λ key. bytes_eq key w) keys ≡ true →
+    slot_at w ≡ Some slot
 among slot [] w are any = cc
 among slot (key ∷ keys) w are any =
     elim (cases_Bool _) [
@@ -48,13 +45,13 @@ passes t (s ∷ slots) slot h =
       | inr apart ↦ passes t slots slot (rw apart at h)
     ]
 
-pub fills_slot : (w : Word) (slot : Key) → slot_of w ≡ Some slot → fills slot w ≡ true
-fills_slot w slot h = passes (λ s. fills s w) all_slots slot h
+module _ (w : Word) (slot : Key) where
+  pub fills_slot : slot_of w ≡ Some slot → fills slot w ≡ true
+  fills_slot h = passes (λ s. fills s w) all_slots slot h
 
-pub fills_none_else : (w : Word) (slot s : Key) → slot_of w ≡ Some slot → (s ≡ slot → ⊥) →
-    fills s w ≡ false
-fills_none_else w slot s h other =
-    elim (cases_Bool _) [
-      | inl here ↦ absurd (other (same_Some s slot (sym (slot_filled w s here) ∙ h)))
-      | inr apart ↦ apart
-    ]
+  pub fills_none_else : (s : Key) → slot_of w ≡ Some slot → (s ≡ slot → ⊥) → fills s w ≡ false
+  fills_none_else s h other =
+      elim (cases_Bool _) [
+        | inl here ↦ absurd (other (same_Some s slot (sym (slot_filled w s here) ∙ h)))
+        | inr apart ↦ apart
+      ]

@@ -5,18 +5,13 @@ use Rattle.ascii_grid.proofs.Decimals.{many_digits}
 use Rattle.ascii_grid.proofs.page.digit_count.Goals as goal
 
 pub loop-count-init : goal.loop-count-init
-loop-count-init c = record {
-  limit = refl;
-  some = omega arith;
-  long = omega (arith, decimal_nonempty);
-}
+loop-count-init c = record { limit = refl; some = omega arith; long = omega (arith, decimal_nonempty) }
 
 pub returns-then-number-limit-clause-value : goal.returns-then-number-limit-clause-value
 returns-then-number-limit-clause-value c =
     omega (
       arith,
-      length-decimal-le _ c.args.number c.loop-count.invariant.some
-          (omega (arith))
+      length-decimal-le _ c.args.number c.loop-count.invariant.some (omega (arith))
           (omega (arith, c.ranges.number.fits)),
     )
 

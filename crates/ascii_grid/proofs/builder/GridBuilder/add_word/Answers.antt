@@ -8,8 +8,7 @@ use Rattle.ascii_grid.proofs.AddedWords.{is_memory, not_memory_slot, not_memory_
 use Rattle.ascii_grid.proofs.Exits.{err_is}
 use Rattle.ascii_grid.proofs.builder.GridBuilder.add_word.Goals as goal
 
-pub returns-in_err-begin_heights-in-AtKey-clause-word :
-    goal.returns-in_err-begin_heights-in-AtKey-clause-word
+pub returns-in_err-begin_heights-in-AtKey-clause-word : goal.returns-in_err-begin_heights-in-AtKey-clause-word
 returns-in_err-begin_heights-in-AtKey-clause-word c = λ ws h.
     let letter = sym c.begins_with_letter.ensures ∙ c.if-begins_with_letter.false in
     rw (err_is c.from_residual-in_err-begin_heights-in-AtKey.ensures.1) (no_first_height _ ws _ _ h c.in-AtKey.is letter
@@ -30,39 +29,37 @@ returns-in_err-put-in-AtValue-clause-word c = λ ws h.
 pub returns-then-begins_with_letter-clause-word : goal.returns-then-begins_with_letter-clause-word
 returns-then-begins_with_letter-clause-word c = λ ws h.
     let slot = c.in_ok-key-in-AtKey.ensures.ok in
-    judged-key _ _ ws _ _ h c.in-AtKey.is
-    (omega arith) (sym c.begins_with_letter.ensures ∙ c.if-begins_with_letter.true) slot.0 slot.1 refl
+    judged-key _ _ ws _ _ h c.in-AtKey.is (omega arith)
+    (sym c.begins_with_letter.ensures ∙ c.if-begins_with_letter.true) slot.0 slot.1 refl
     (rw c.names_centre-centre.ensures refl)
 
 pub returns-in_err-key-in-AtKey-clause-word : goal.returns-in_err-key-in-AtKey-clause-word
 returns-in_err-key-in-AtKey-clause-word c = λ ws h.
     let letter = sym c.begins_with_letter.ensures ∙ c.if-begins_with_letter.true in
     let bad = c.in_err-key-in-AtKey.ensures.err in
-    rw (err_is c.from_residual-in_err-key-in-AtKey.ensures.1)
-    (word_fault c.args.self.now.scale (ws ++ c.args.word.now ∷ []) _ (not_memory_slot _ _ _ bad)
+    rw (err_is c.from_residual-in_err-key-in-AtKey.ensures.1) (word_fault c.args.self.now.scale
+    (ws ++ c.args.word.now ∷ []) _ (not_memory_slot _ _ _ bad)
     (fault-key _ ws _ _ h c.in-AtKey.is (omega arith) letter bad))
 
 pub returns-in-AtHeights-clause-word : goal.returns-in-AtHeights-clause-word
 returns-in-AtHeights-clause-word c = λ ws h.
     let there = at_heights _ ws h c.in-AtHeights.is in
     let kept = c.add_height.ensures.kept in
-    height_word _ _ ws h.pairs h.rest _ _ h.header h.words
-    (HasBegun-more h.rest _ there.0) there.1 (omega arith)
-    (ap (λ (j : GridBuilder). j.header) kept) (ap (λ (j : GridBuilder). j.expected) kept
-    ∙ c.in-AtHeights.is) (c.add_height.ensures.word h.pairs h.rest there.1)
+    height_word _ _ ws h.pairs h.rest _ _ h.header h.words (HasBegun-more h.rest _ there.0) there.1 (omega arith)
+    (ap (λ (j : GridBuilder). j.header) kept) (ap (λ (j : GridBuilder). j.expected) kept ∙ c.in-AtHeights.is)
+    (c.add_height.ensures.word h.pairs h.rest there.1)
 
-pub returns-in_ok-begin_heights-in-AtKey-clause-word :
-    goal.returns-in_ok-begin_heights-in-AtKey-clause-word
+pub returns-in_ok-begin_heights-in-AtKey-clause-word : goal.returns-in_ok-begin_heights-in-AtKey-clause-word
 returns-in_ok-begin_heights-in-AtKey-clause-word c = λ ws h.
     let letter = sym c.begins_with_letter.ensures ∙ c.if-begins_with_letter.false in
     let begun = c.in_ok-begin_heights-in-AtKey.ensures.none h.pairs h.header in
     let began = c.in_ok-begin_heights-in-AtKey.ensures.kept in
     let kept = c.add_height-in-AtKey.ensures.kept in
-    let header = same_header _ _ h.pairs
-    (ap (λ (j : GridBuilder). j.header) began) h.header in
+    let header = same_header _ _ h.pairs (ap (λ (j : GridBuilder). j.header) began) h.header in
     let words = at_key _ ws h c.in-AtKey.is ∙ sym (append-nil (flat h.pairs)) in
-    let more = height_word _ _ ws h.pairs [] c.args.word.now _ header words letter begun (omega arith)
-    (ap (λ (j : GridBuilder). j.header) kept) (ap (λ (j : GridBuilder). j.expected) kept
-    ∙ c.in_ok-begin_heights-in-AtKey.ensures.expected)
+    let more =
+    height_word _ _ ws h.pairs [] c.args.word.now _ header words letter begun (omega arith)
+    (ap (λ (j : GridBuilder). j.header) kept)
+    (ap (λ (j : GridBuilder). j.expected) kept ∙ c.in_ok-begin_heights-in-AtKey.ensures.expected)
     (c.add_height-in-AtKey.ensures.word h.pairs [] begun) in
     rw (ap (λ (j : GridBuilder). j.scale) began) at more

@@ -10,13 +10,13 @@ returns-in_err-take-clause-words c = λ text h.
     let first = c.take_heights-at.ensures in
     let before = c.loop-at.invariant in
     rw (err_is c.from_residual.ensures.1) (fault_at _ _ text c.args.bytes.now _ _ _ (before.scale ∙ first.scale)
-    c.loop-at-test.true refl (c.in_err-take.ensures.words _
-    (taken_words _ _ _ text c.args.bytes.now _ _ first before h)))
+    c.loop-at-test.true refl
+    (c.in_err-take.ensures.words _ (taken_words _ _ _ text c.args.bytes.now _ _ first before h)))
 
 pub loop-at-preserved : goal.loop-at-preserved
-loop-at-preserved c = taken_byte _ _ _ _ _ _ _ _ _ c.loop-at.invariant
-    c.loop-at-test.true refl c.in_ok-take.ensures.scale c.in_ok-take.ensures.words
-    c.take_heights-at-in-loop-at.ensures
+loop-at-preserved c =
+    taken_byte _ _ _ _ _ _ _ _ _ c.loop-at.invariant c.loop-at-test.true refl c.in_ok-take.ensures.scale
+    c.in_ok-take.ensures.words c.take_heights-at-in-loop-at.ensures
 
 pub returns-clause-words : goal.returns-clause-words
 returns-clause-words c = λ text h. subst (λ z. HasWords c.loop-at.self (text ++ z))
