@@ -37,7 +37,7 @@ split_none xs e = go (nat_lt (position_or_len is_comma xs) (length xs)) refl e w
 four_parts : (row col eye : List ℕ) (parts : List (List ℕ)) → 0 < length parts →
     observer_of_parts (row ∷ col ∷ eye ∷ parts) ≡ None
 four_parts row col eye [] some = absurd (omega arith)
-four_parts row col eye (part ∷ parts) some = refl
+four_parts row col eye parts some = refl
 
 pub too_many_parts : (word rest eye row col third fourth : List ℕ) → slice_split is_comma word ≡ row
     ∷ slice_split is_comma rest → slice_split is_comma rest ≡ col ∷ slice_split is_comma eye →
@@ -50,7 +50,7 @@ too_many_parts word rest eye row col third fourth a b c =
 three_parts : (row col : List ℕ) (parts : List (List ℕ)) → 0 < length parts →
     place_of_parts (row ∷ col ∷ parts) ≡ None
 three_parts row col [] some = absurd (omega arith)
-three_parts row col (part ∷ parts) some = refl
+three_parts row col parts some = refl
 
 pub no_sink : (word col row second third : List ℕ) →
     slice_split is_comma word ≡ row ∷ slice_split is_comma col →
