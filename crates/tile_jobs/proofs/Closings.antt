@@ -14,26 +14,25 @@ use Rattle.tile_jobs.specs.declared.deque.Log.{Log}
 use Rattle.tile_jobs.specs.Ends.{IsSeated, ClosingState, position_of, deal_of}
 use Rattle.tile_jobs.proofs.Entries.{times_append, no_job}
 
-job_at : (d : List ℕ) (n t j : ℕ) (rest : List DequeEntry) →
-    Job j ∷ rest ≡ drop t (jobs_in d ++ replicate n End) → j ∷ drop (suc t) d ≡ drop t d
+job_at : (d : List ℕ) (n t j : ℕ) (rest : List DequeEntry) → Job j ∷ rest ≡ drop t (jobs_in d ++ replicate n End) →
+    j ∷ drop (suc t) d ≡ drop t d
 job_at [] n t j rest e = absurd (no_job n t j rest e)
 job_at (i ∷ d) n zero j rest e = let q : j ≡ i = cc in rw q refl
 job_at (i ∷ d) n (suc t) j rest e = job_at d n t j rest e
 
-end_at : (d : List ℕ) (n t : ℕ) (rest : List DequeEntry) →
-    End ∷ rest ≡ drop t (jobs_in d ++ replicate n End) → length d ≤ t
+end_at : (d : List ℕ) (n t : ℕ) (rest : List DequeEntry) → End ∷ rest ≡ drop t (jobs_in d ++ replicate n End) →
+    length d ≤ t
 end_at [] n t rest e = omega arith
 end_at (i ∷ d) n zero rest e = cc
 end_at (i ∷ d) n (suc t) rest e = omega (arith, end_at d n t rest e)
 
-pub feed_job_at : (jobs seats v t j : ℕ) (rest : List DequeEntry) →
-    Job j ∷ rest ≡ drop t (feed jobs seats v)
-    → j ∷ drop (suc t) (deal jobs seats v) ≡ drop t (deal jobs seats v)
+pub feed_job_at : (jobs seats v t j : ℕ) (rest : List DequeEntry) → Job j ∷ rest ≡ drop t (feed jobs seats v) →
+    j ∷ drop (suc t) (deal jobs seats v) ≡ drop t (deal jobs seats v)
 unfolding feed
 feed_job_at jobs seats v t j rest e = job_at _ seats t j rest e
 
-pub feed_end_at : (jobs seats v t : ℕ) (rest : List DequeEntry) →
-    End ∷ rest ≡ drop t (feed jobs seats v) → length (deal jobs seats v) ≤ t
+pub feed_end_at : (jobs seats v t : ℕ) (rest : List DequeEntry) → End ∷ rest ≡ drop t (feed jobs seats v) →
+    length (deal jobs seats v) ≤ t
 unfolding feed
 feed_end_at jobs seats v t rest e = end_at _ seats t rest e
 
@@ -52,12 +51,10 @@ pub part_more : (d p : List ℕ) (k t j : ℕ) → t ≡ k + length p → p ++ d
 part_more d p k t j at e next = append_assoc p _ _ ∙ rw next e
 
 -- Once an end mark is popped, the jobs p popped before it are the deal d from some index on.
-pub part_ends : (d p : List ℕ) (k t m : ℕ) → p ++ drop t d ≡ drop k d → (m ≡ 0 → length d ≤ t) →
-    (0 < m → p ≡ []) → (i : ℕ) × (p ≡ drop i d)
-part_ends d p k t zero e past none =
-    (k, sym (append-nil p) ∙ rw (← drop_all t d (past refl)) e)
-part_ends d p k t (suc m) e past none =
-    (length d, none (omega arith) ∙ sym (drop_all _ d (omega arith)))
+pub part_ends : (d p : List ℕ) (k t m : ℕ) → p ++ drop t d ≡ drop k d → (m ≡ 0 → length d ≤ t) → (0 < m → p ≡ []) →
+    (i : ℕ) × (p ≡ drop i d)
+part_ends d p k t zero e past none = (k, sym (append-nil p) ∙ rw (← drop_all t d (past refl)) e)
+part_ends d p k t (suc m) e past none = (length d, none (omega arith) ∙ sym (drop_all _ d (omega arith)))
 
 module _ (s0 s : ClosingState) (p : List ℕ)
     (now : s ≡ record s0 { took = s0.took ++ p; marks = s.marks; marked = s.marked }) where
@@ -69,8 +66,8 @@ module _ (s0 s : ClosingState) (p : List ℕ)
   now_more n j e =
       let marks : n.marks ≡ s.marks = ap (λ (x : ClosingState). x.marks) e in
       let marked : n.marked ≡ s.marked = ap (λ (x : ClosingState). x.marked) e in
-      e ∙ ap (λ (x : ClosingState). record x { took = x.took ++ j ∷ [] }) now
-      ∙ rw (append_assoc s0.took p (j ∷ []), marks, marked) refl
+      e ∙ ap (λ (x : ClosingState). record x { took = x.took ++ j ∷ [] }) now ∙
+      rw (append_assoc s0.took p (j ∷ []), marks, marked) refl
 
   pub now_place : (n : ClosingState) (j : ℕ) → n ≡ record s { took = s.took ++ j ∷ [] } →
       position_of n ≡ suc (position_of s)
@@ -91,8 +88,7 @@ module _ (s0 s : ClosingState) (p : List ℕ)
       let f = ap (times y) now_deal in
       omega arith
 
-pub back_here : (v s b : ℕ) → s ≡ v → b + cond (nat_lt v s) 1 0 ≡ suc s →
-    b + cond (nat_lt v (s + 1)) 1 0 ≡ suc (s + 1)
+pub back_here : (v s b : ℕ) → s ≡ v → b + cond (nat_lt v s) 1 0 ≡ suc s → b + cond (nat_lt v (s + 1)) 1 0 ≡ suc (s + 1)
 back_here v s b e h = grind arith
 
 pub back_else : (v s b : ℕ) → s ≢ v → b + cond (nat_lt v s) 1 0 ≡ suc s →

@@ -31,16 +31,13 @@ pub deal_count : (jobs seats v : ℕ) → v < seats →
 deal_count jobs seats v low =
     let e : (jobs / seats) * seats + jobs % seats ≡ jobs = let s = mod-add-div' jobs seats in
     omega (arith, s) in
-    ap (λ j. length (deal j seats v)) (sym e) ∙ part_of_round _ _ seats v
-    (omega arith) (whole_rounds _ seats v low)
+    ap (λ j. length (deal j seats v)) (sym e) ∙ part_of_round _ _ seats v (omega arith) (whole_rounds _ seats v low)
 
-pub deal_before_round : (seats v round : ℕ) → v < seats →
-    length (deal (v + round * seats) seats v) ≡ round
+pub deal_before_round : (seats v round : ℕ) → v < seats → length (deal (v + round * seats) seats v) ≡ round
 deal_before_round seats v round low =
     let e : v + round * seats ≡ round * seats + v = omega arith in
     let t : nat_lt v v ≡ false = grind arith in
-    rw e (part_of_round round v seats v (omega arith) (whole_rounds round seats v low)
-    ∙ rw t (omega arith))
+    rw e (part_of_round round v seats v (omega arith) (whole_rounds round seats v low) ∙ rw t (omega arith))
 
 deal_grows : (n m seats v : ℕ) → n ≤ m → length (deal n seats v) ≤ length (deal m seats v)
 deal_grows zero m seats v l = omega arith
@@ -48,18 +45,16 @@ deal_grows (suc n) zero seats v l = absurd (omega arith)
 deal_grows (suc n) (suc m) seats v l =
     elim (cases_eq n m) [
       | inl e ↦ rw e (omega arith)
-      | inr far ↦ let h = deal_grows (suc n) m seats v (omega arith) in let s =
-          deal_length m seats v in omega arith
+      | inr far ↦ let h = deal_grows (suc n) m seats v (omega arith) in let s = deal_length m seats v in omega arith
     ]
 
-pub round_below : (jobs seats v count round : ℕ) → v < seats → count ≡ length (deal jobs seats v) →
-    round < count → v + round * seats < jobs
+pub round_below : (jobs seats v count round : ℕ) → v < seats → count ≡ length (deal jobs seats v) → round < count →
+    v + round * seats < jobs
 round_below jobs seats v count round low is few =
     let at = deal_before_round seats v round low in
     elim (cases_lt (v + round * seats) jobs) [
       | inl l ↦ l
-      | inr high ↦ let h =
-          deal_grows jobs (v + round * seats) seats v high in absurd (omega arith)
+      | inr high ↦ let h = deal_grows jobs (v + round * seats) seats v high in absurd (omega arith)
     ]
 
 pub round_remainder : (seats v round : ℕ) → v < seats → (v + round * seats) % seats ≡ v
