@@ -40,8 +40,8 @@ module _ (j : GridBuilder) (ws : List Word) (h : HasAdded j ws) where
 
 -- ---- a key
 
-pub same_header : (h h' : Header) (ps : Pairs) → h' ≡ h → IsHeaderOf h ps → IsHeaderOf h' ps
-same_header h h' ps e k = assumption (e ∙ k.slots)
+pub same_header : {h h' : Header} {ps : Pairs} → h' ≡ h → IsHeaderOf h ps → IsHeaderOf h' ps
+same_header e k = assumption (e ∙ k.slots)
 
 pub is_short : (w : Word) → length w ≤ 64 → is_long w ≡ false
 is_short w h = le-ltb 64 _ h
@@ -58,11 +58,11 @@ key_fault-short : (ps : Pairs) (k : Word) → length k ≤ 64 →
     key_fault (keys_before ps []) k ≡ fault_of_slot ps (slot_of k)
 key_fault-short ps k h = rw is_short
 
-slot_fault : (ps : Pairs) (o : Option Key) (f : GridFault) →
+slot_fault : (ps : Pairs) (o : Option Key) {f : GridFault} →
     MatchOption o (f ≡ UnknownKey) (λ slot. (is_given (slots_of ps) slot ≡ true) × (f ≡ RepeatedKey slot)) →
     fault_of_slot ps o ≡ Some f
-slot_fault ps None f e = ap Some (sym e)
-slot_fault ps (Some slot) f e = rw (repeats slot ps ∙ e.0) (ap Some (sym e.1))
+slot_fault ps None e = ap Some (sym e)
+slot_fault ps (Some slot) e = rw (repeats slot ps ∙ e.0) (ap Some (sym e.1))
 
 module _ (j : GridBuilder) where
   pub judged-key : (j' : GridBuilder) (ws : List Word) (w : Word) (slot : Key) → HasAdded j ws → j.expected ≡ AtKey →
@@ -77,7 +77,7 @@ module _ (j : GridBuilder) where
         pairs = h.pairs;
         rest = w ∷ [];
         words = rw (at_key j ws h e) refl;
-        header = same_header _ _ _ same h.header;
+        header = same_header same h.header;
         at = rw expected (w, refl, awaits);
       }
 
@@ -92,15 +92,15 @@ module _ (j : GridBuilder) where
       MatchOption (slot_of w) (f ≡ UnknownKey) (λ slot. (is_given j.header slot ≡ true) × (f ≡ RepeatedKey slot)) →
       words_fault j.scale (ws ++ w ∷ []) ≡ Some f
   fault-key ws w f h e short letter m =
-      next-key ws w h e letter ∙ key_fault-short h.pairs w short ∙ slot_fault h.pairs (slot_of w) f (subst
+      next-key ws w h e letter ∙ key_fault-short h.pairs w short ∙ slot_fault h.pairs (slot_of w) (subst
       (λ x. MatchOption (slot_of w) (f ≡ UnknownKey) (λ slot. (is_given x slot ≡ true) × (f ≡ RepeatedKey slot)))
       h.header.slots m)
 
 -- ---- a value
 
-value_fault-short : (k v : Word) (slot : Key) → length v ≤ 64 → slot_of k ≡ Some slot →
+value_fault-short : (k v : Word) {slot : Key} → length v ≤ 64 → slot_of k ≡ Some slot →
     value_fault k v ≡ cond (is_value slot v) None (Some (bad_value slot))
-value_fault-short k v slot h s = rw (is_short, s)
+value_fault-short k v h s = rw (is_short, s)
 
 module _ (j : GridBuilder) where
   pub judged-value : (j' : GridBuilder) (ws : List Word) (v : Word) (slot : Key) (centre : Bool) → HasAdded j ws →
@@ -111,7 +111,7 @@ module _ (j : GridBuilder) where
       let k = there.0 in
       let awaits = there.2 in
       let fault : value_fault k v ≡ None =
-      value_fault-short k v slot short awaits.key_is ∙ ap (λ b. cond b None (Some (bad_value slot))) ok in
+      value_fault-short k v short awaits.key_is ∙ ap (λ b. cond b None (Some (bad_value slot))) ok in
       let words : ws ++ v ∷ [] ≡ flat (h.pairs ++ (k, v) ∷ []) =
       ap (λ z. z ++ v ∷ []) there.1 ∙ append_assoc (flat h.pairs) (k ∷ []) (v ∷ []) ∙ sym (flat-push h.pairs k v) in
       let none : header_fault [] (flat h.pairs ++ k ∷ v ∷ []) ≡ None =
@@ -144,14 +144,14 @@ module _ (j : GridBuilder) where
       words_fault j.scale (ws ++ v ∷ []) ≡ Some (bad_value slot)
   fault-value ws v slot centre h e short bad =
       let there = at_value j ws h slot centre e in
-      next-value ws v slot centre h e ∙ value_fault-short there.0 v slot short there.2.key_is ∙
+      next-value ws v slot centre h e ∙ value_fault-short there.0 v short there.2.key_is ∙
       ap (λ b. cond b None (Some (bad_value slot))) bad
 
 -- ---- heights
 
-pub words-after : (h : Header) (ps : Pairs) (hs : List Word) → IsHeaderOf h ps → HasBegun hs →
+pub words-after : {h : Header} {ps : Pairs} {hs : List Word} → IsHeaderOf h ps → HasBegun hs →
     (header_words (flat ps ++ hs) ≡ flat ps) × (height_words (flat ps ++ hs) ≡ hs)
-words-after h ps hs k begun =
+words-after {ps} {hs} k begun =
     let both = words-flat ps hs k.keys in
     let rest = words-begun hs begun in
     (both.0 ∙ rw rest.0 (append-nil _), both.1 ∙ rest.1)
@@ -164,7 +164,7 @@ paired ps = ap key_left (sym (append-nil (flat ps))) ∙ key_left-flat ps []
 pub asks : (h : Header) (ps : Pairs) (hs : List Word) → IsHeaderOf h ps → HasBegun hs → missing_fault (flat ps) ≡ None →
     list_any is_long (take 1 hs) ≡ false → AsksForCells (flat ps ++ hs)
 asks h ps hs k begun whole first =
-    let are = words-after h ps hs k begun in
+    let are = words-after k begun in
     record {
       faultless = rw are.0 k.faultless;
       paired = ap key_left are.0 ∙ paired ps;
@@ -179,21 +179,21 @@ first_short d header (x ∷ hs) w short none = rw (then_none (is_long x) TooLong
 
 -- let the words `ws` be the header of `j` and heights `hs`, and `j'` be among the heights of this
 -- header. If `hs ++ more` have no fault and `j'` stores their cells, it has read `ws` and `more`
-pub judged-heights : (j j' : GridBuilder) (ws : List Word) (ps : Pairs) (hs more : List Word) → IsHeaderOf j.header ps →
+pub judged-heights : (j j' : GridBuilder) {ws : List Word} (ps : Pairs) (hs more : List Word) → IsHeaderOf j.header ps →
     ws ≡ flat ps ++ hs → HasBegun (hs ++ more) → HasReadHeights j' ps (hs ++ more) → j'.header ≡ j.header →
     j'.expected ≡ AtHeights → HasAdded j' (ws ++ more)
-judged-heights j j' ws ps hs more k e begun heights same expected = record {
+judged-heights j j' ps hs more k e begun heights same expected = record {
   pairs = ps;
   rest = hs ++ more;
   words = rw e (append_assoc _ hs more);
-  header = same_header _ _ ps same k;
+  header = same_header same k;
   at = subst (FitsExpected j' ps (hs ++ more)) (sym expected) (begun, heights);
 }
 
-pub next-height : (d : ℕ) (ws : List Word) (ps : Pairs) (hs : List Word) (w : Word) (h : Header) → IsHeaderOf h ps →
+pub next-height : (d : ℕ) {ws : List Word} {ps : Pairs} (hs : List Word) (w : Word) {h : Header} → IsHeaderOf h ps →
     ws ≡ flat ps ++ hs → HasBegun (hs ++ w ∷ []) → heights_fault d (flat ps) 0 hs ≡ None →
     words_fault d (ws ++ w ∷ []) ≡ height_fault d (flat ps) (length hs) w
-next-height d ws ps hs w h k e begun none =
+next-height d {ps} hs w k e begun none =
     ap (words_fault d) (ap (λ z. z ++ w ∷ []) e ∙ append_assoc (flat ps) hs (w ∷ [])) ∙
     words_fault-heights d ps (hs ++ w ∷ []) k.keys k.faultless begun ∙ heights_fault-push d (flat ps) 0 hs w ∙
     ap (λ o. option_or o (height_fault d (flat ps) (0 + length hs) w)) none ∙
@@ -201,22 +201,22 @@ next-height d ws ps hs w h k e begun none =
 
 -- reading a faultless header without missing slots, faultless heights `hs` and a height `w` of at
 -- most 64 bytes allocates the cells at the first height (`AsksAtHeight`)
-pub memory-height : (j : GridBuilder) (ws : List Word) (ps : Pairs) (hs : List Word) (w : Word) (h : Header) →
+pub memory-height : (j : GridBuilder) {ws : List Word} {ps : Pairs} (hs : List Word) (w : Word) {h : Header} →
     IsHeaderOf h ps → ws ≡ flat ps ++ hs → HasBegun (hs ++ w ∷ []) → missing_fault (flat ps) ≡ None →
     heights_fault j.scale (flat ps) 0 hs ≡ None → length w ≤ 64 → AsksAtHeight (ws ++ w ∷ [])
-memory-height j ws ps hs w h k e begun whole none short =
+memory-height j {ps} hs w {h} k e begun whole none short =
     let words = ap (λ z. z ++ w ∷ []) e ∙ append_assoc _ hs _ in
     rw words (
       asks h ps _ k begun whole (first_short j.scale (flat ps) hs w short none),
-      rw ((words-after h ps _ k begun).1) (omega (arith, length-append hs (w ∷ []))),
+      rw ((words-after k begun).1) (omega (arith, length-append hs (w ∷ []))),
     )
 
 -- ---- words without a fault, the count of cells, and faults that are not `Memory`
 
-pub height_fault-none : (d : ℕ) (header : List Word) (place : ℕ) (w : Word) → length w ≤ 64 →
+pub height_fault-none : (d : ℕ) (header : List Word) {place : ℕ} (w : Word) → length w ≤ 64 →
     missing_fault header ≡ None → place < cells_wanted header → is_cell d (nodata_for header) w ≡ true →
     height_fault d header place w ≡ None
-height_fault-none d header place w short whole room ok = rw (is_short, whole, lt-ltb, ok)
+height_fault-none d header w short whole room ok = rw (is_short, whole, lt-ltb, ok)
 
 module _ (j : GridBuilder) where
   pub place_of : (ps : Pairs) (hs : List Word) → HasReadHeights j ps hs → length j.cells.items ≡ length hs
@@ -229,8 +229,8 @@ module _ (j : GridBuilder) where
       j'.cells.items ≡ j.cells.items ++ cell ∷ [] → HasReadHeights (record j { cells = j'.cells }) ps (hs ++ w ∷ [])
   HasReadHeights-push j' ps hs w cell h short is value room all =
       let none : height_fault j.scale (flat ps) (0 + length hs) w ≡ None =
-      height_fault-none j.scale (flat ps) (0 + length hs) w short h.whole
-      (omega (arith, place_of ps hs h, h.wanted, room)) (subst (λ n. is_cell j.scale n w ≡ true) h.nodata is) in
+      height_fault-none j.scale (flat ps) w short h.whole (omega (arith, place_of ps hs h, h.wanted, room))
+      (subst (λ n. is_cell j.scale n w ≡ true) h.nodata is) in
       record {
         whole = h.whole;
         wanted = h.wanted;
@@ -285,26 +285,26 @@ not_memory_missing header = not_memory_missing_slot _
 
 -- ---- the fault that is reported
 
-pub reported : (may_lack : Type 0) (o : Option GridFault) (f : GridFault) → is_memory o ≡ false → o ≡ Some f →
+pub reported : (may_lack : Type 0) {o : Option GridFault} (f : GridFault) → is_memory o ≡ false → o ≡ Some f →
     IsReported may_lack o f
-reported may_lack o Memory m h = absurd cc
-reported may_lack o f m h = h
+reported may_lack Memory m h = absurd cc
+reported may_lack f m h = h
 
 -- a fault that may be reported by `may_lack` and `o` may be reported by `may_lack'` and `o'`, if
 -- `may_lack` implies `may_lack'`, and a fault in `o` is in `o'` too
-pub reported_further : (may_lack may_lack' : Type 0) (o o' : Option GridFault) (f : GridFault) →
+pub reported_further : {may_lack may_lack' : Type 0} {o o' : Option GridFault} (f : GridFault) →
     (may_lack → may_lack') → ((g : GridFault) → o ≡ Some g → o' ≡ Some g) → IsReported may_lack o f →
     IsReported may_lack' o' f
-reported_further may_lack may_lack' o o' Memory lacks more h = lacks h
-reported_further may_lack may_lack' o o' f lacks more h = more f h
+reported_further Memory lacks more h = lacks h
+reported_further f lacks more h = more f h
 
 pub word_fault : (d : ℕ) (ws : List Word) (f : GridFault) → is_memory (Some f) ≡ false → words_fault d ws ≡ Some f →
     IsWordFault d ws f
-word_fault d ws f other h = reported _ _ f (ap is_memory h ∙ other) h
+word_fault d ws f other h = reported _ f (ap is_memory h ∙ other) h
 
-pub long_fault : (j : GridBuilder) (ws : List Word) (w : Word) → HasAdded j ws → 64 < length w →
+pub long_fault : {j : GridBuilder} {ws : List Word} (w : Word) → HasAdded j ws → 64 < length w →
     words_fault j.scale (ws ++ w ∷ []) ≡ Some TooLong
-long_fault j ws w h far = by_expected j.expected refl
+long_fault {j} {ws} w h far = by_expected j.expected refl
   where
     long : is_long w ≡ true
     long = lt-ltb 64 (length w) far
@@ -313,27 +313,26 @@ long_fault j ws w h far = by_expected j.expected refl
     by_expected AtKey e =
         elim (cases_Bool (begins_with_letter w)) [
           | inl letter ↦ next-key j ws w h e letter ∙ rw long refl
-          | inr begun ↦ next-height j.scale ws h.pairs [] w j.header h.header
-              (at_key j ws h e ∙ sym (append-nil (flat h.pairs))) begun refl ∙ rw long refl
+          | inr begun ↦ next-height j.scale [] w h.header (at_key j ws h e ∙ sym (append-nil (flat h.pairs))) begun
+              refl ∙ rw long refl
         ]
     by_expected (AtValue slot centre) e = next-value j ws w slot centre h e ∙ rw long refl
     by_expected AtHeights e =
         let there = at_heights j ws h e in
-        next-height j.scale ws h.pairs h.rest w j.header h.header h.words (HasBegun-more h.rest (w ∷ []) there.0)
-        there.1.faultless ∙ rw long refl
+        next-height j.scale h.rest w h.header h.words (HasBegun-more h.rest (w ∷ []) there.0) there.1.faultless ∙
+        rw long refl
 
 -- if `r` meets what `add_height` ensures for `w` after the heights `hs`, it meets the clause `word`
 -- of `add_word` for `w` after the words `ws`, which are a header and `hs`
-pub height_word : {T : Type 0} (j j' : GridBuilder) (ws : List Word) (ps : Pairs) (hs : List Word) (w : Word)
+pub height_word : {T : Type 0} (j j' : GridBuilder) (ws : List Word) {ps : Pairs} {hs : List Word} (w : Word)
     (r : Result T GridFault) → IsHeaderOf j.header ps → ws ≡ flat ps ++ hs → HasBegun (hs ++ w ∷ []) →
     HasReadHeights j ps hs → length w ≤ 64 → j'.header ≡ j.header → j'.expected ≡ AtHeights →
     MatchResult r (λ _. HasReadHeights j' ps (hs ++ w ∷ [])) (IsHeightFault j.scale ps hs w) →
     MatchResult r (λ _. HasAdded j' (ws ++ w ∷ [])) (IsWordFault j.scale (ws ++ w ∷ []))
-height_word j j' ws ps hs w r k e begun heights short same expected m =
-    MatchResult-weaker r m (λ _ more. judged-heights j j' ws ps hs (w ∷ []) k e begun more same expected) (λ f.
-    reported_further _ _ (height_fault j.scale (flat ps) (length hs) w) (words_fault j.scale (ws ++ w ∷ [])) f
-    (λ _. memory-height j ws ps hs w j.header k e begun heights.whole heights.faultless short)
-    (λ g fault. next-height j.scale ws ps hs w j.header k e begun heights.faultless ∙ fault))
+height_word j j' ws {ps} {hs} w r k e begun heights short same expected m =
+    MatchResult-weaker r m (λ _ more. judged-heights j j' ps hs (w ∷ []) k e begun more same expected) (λ f.
+    reported_further f (λ _. memory-height j hs w k e begun heights.whole heights.faultless short)
+    (λ g fault. next-height j.scale hs w k e begun heights.faultless ∙ fault))
 
 -- where `w` is the first height and not too long, a missing slot's fault may be reported for `ws`
 -- and `w`, or `Memory` if no slot is missing
@@ -342,7 +341,5 @@ pub no_first_height : (j : GridBuilder) (ws : List Word) (w : Word) (f : GridFau
     IsWordFault j.scale (ws ++ w ∷ []) f
 no_first_height j ws w f h expected begun short =
     let e = at_key j ws h expected ∙ sym (append-nil (flat h.pairs)) in
-    reported_further _ _ (missing_fault (flat h.pairs)) (words_fault j.scale (ws ++ w ∷ [])) f
-    (λ whole. memory-height j ws h.pairs [] w j.header h.header e begun whole refl short)
-    (λ g missing. next-height j.scale ws h.pairs [] w j.header h.header e begun refl ∙
-    rw (is_short w short, missing) refl)
+    reported_further f (λ whole. memory-height j [] w h.header e begun whole refl short)
+    (λ g missing. next-height j.scale [] w h.header e begun refl ∙ rw (is_short w short, missing) refl)

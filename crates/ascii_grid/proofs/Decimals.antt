@@ -58,27 +58,27 @@ many_digits n h = decimal_by_steps (λ m ds. (k : ℕ) → 10 ^ k ≤ m → k < 
 pub number_of-push : (ds : List ℕ) (b : ℕ) → number_of (ds ++ b ∷ []) ≡ 10 * number_of ds + (b - 48)
 number_of-push ds b = fold-append (λ n c. 10 * n + (c - 48)) 0 ds _
 
-last_value : (n m : ℕ) → m ≡ n / 10 → 10 * m + (48 + n % 10 - 48) ≡ n
-last_value n m e = omega arith
+last_value : {n m : ℕ} → m ≡ n / 10 → 10 * m + (48 + n % 10 - 48) ≡ n
+last_value e = omega arith
 
-pub decimal_value : (n : ℕ) → n < 2 ^ 64 → number_of (decimal n) ≡ n
-decimal_value n h =
-    decimal_by_steps (λ m ds. number_of ds ≡ m) (λ m k. omega arith)
-    (λ m ds k e. number_of-push ds _ ∙ last_value m _ e) n h
+pub decimal_value : {n : ℕ} → n < 2 ^ 64 → number_of (decimal n) ≡ n
+decimal_value {n} h =
+    decimal_by_steps (λ m ds. number_of ds ≡ m) (λ m k. omega arith) (λ m ds k e. number_of-push ds _ ∙ last_value e) n
+    h
 
 digit_of : (m : ℕ) → m < 10 → is_ascii_digit (48 + m) ≡ true
 digit_of m h = and_from _ _ (le-leb 48 _ (omega arith)) (le-leb (48 + m) 57 (omega arith))
 
-digits_push : (ds : List ℕ) (m : ℕ) → m < 10 → list_all is_ascii_digit ds ≡ true →
+digits_push : (ds : List ℕ) {m : ℕ} → m < 10 → list_all is_ascii_digit ds ≡ true →
     list_all is_ascii_digit (ds ++ (48 + m) ∷ []) ≡ true
-digits_push ds m h k =
+digits_push ds {m} h k =
     list_all-append is_ascii_digit ds ((48 + m) ∷ []) ∙ and_from _ _ k (and_from _ true (digit_of m h) refl)
 
 module _ (n : ℕ) where
   pub decimal_digits : n < 2 ^ 64 → list_all is_ascii_digit (decimal n) ≡ true
   decimal_digits h =
-      decimal_by_steps (λ m ds. list_all is_ascii_digit ds ≡ true) (λ m k. digits_push [] m k refl)
-      (λ m ds k e. digits_push ds _ (omega arith) e) n h
+      decimal_by_steps (λ m ds. list_all is_ascii_digit ds ≡ true) (λ m k. digits_push [] k refl)
+      (λ m ds k e. digits_push ds (omega arith) e) n h
 
   pub decimal_word : n < 2 ^ 64 → is_word (decimal n) ≡ true
   decimal_word h = some _ (decimal_nonempty n h)
@@ -92,8 +92,7 @@ module _ (n : ℕ) where
 
 pub last_digits_digits : (d n : ℕ) → list_all is_ascii_digit (last_digits d n) ≡ true
 last_digits_digits zero n = refl
-last_digits_digits (suc d) n =
-    digits_push (last_digits d (n / 10)) (n % 10) (omega arith) (last_digits_digits d (n / 10))
+last_digits_digits (suc d) n = digits_push (last_digits d (n / 10)) (omega arith) (last_digits_digits d (n / 10))
 
 pub length-last_digits : (d n : ℕ) → length (last_digits d n) ≡ d
 length-last_digits zero n = refl
@@ -102,9 +101,9 @@ length-last_digits (suc d) n =
     omega (arith, e, length-append (last_digits d (n / 10)) ((48 + n % 10) ∷ []))
 
 pub scaled_digits : (d n : ℕ) → n < 2 ^ 64 → number_of (decimal (n / 10 ^ d) ++ last_digits d n) ≡ n
-scaled_digits zero n h = ap number_of (append-nil (decimal (n / 10 ^ 0))) ∙ rw div-one (decimal_value n h)
+scaled_digits zero n h = ap number_of (append-nil (decimal (n / 10 ^ 0))) ∙ rw div-one (decimal_value h)
 scaled_digits (suc d) n h =
     let small : n / 10 < 2 ^ 64 = omega arith in
     ap number_of (sym (append_assoc (decimal (n / 10 ^ suc d)) (last_digits d (n / 10)) ((48 + n % 10) ∷ []))) ∙
     number_of-push (decimal (n / 10 ^ suc d) ++ last_digits d (n / 10)) (48 + n % 10) ∙
-    rw (← div_pow) (last_value n _ (scaled_digits d _ small))
+    rw (← div_pow) (last_value (scaled_digits d _ small))

@@ -59,48 +59,47 @@ module _ (p : Tokenizer) (text : List ℕ) where
 
   pub ended_long : HasWords p text → 64 < length p.word → words_fault p.builder.scale (words text) ≡ Some TooLong
   ended_long h far =
-      ap (words_fault p.builder.scale) (words-last p text h (omega (arith, far))) ∙ long_fault p.builder
-      (ended_words text) h.last h.judged (omega (arith, far, ap length h.front, length-take 65 h.last))
+      ap (words_fault p.builder.scale) (words-last p text h (omega (arith, far))) ∙
+      long_fault h.last h.judged (omega (arith, far, ap length h.front, length-take 65 h.last))
 
 -- ---- one more byte
 
-pub words_after_byte : (p p' : Tokenizer) (text : List ℕ) (b : ℕ) (h : HasWords p text) → is_separator b ≡ false →
+pub words_after_byte : {p p' : Tokenizer} (text : List ℕ) (b : ℕ) (h : HasWords p text) → is_separator b ≡ false →
     p'.builder ≡ p.builder → p'.word ≡ take 65 (h.last ++ b ∷ []) → HasWords p' (text ++ b ∷ [])
-words_after_byte p p' text b h e builder word = record {
+words_after_byte text b h e builder word = record {
   last = h.last ++ b ∷ [];
   parted = IsParted-byte text _ b h.parted e;
   judged = rw (builder, ended_words-byte) h.judged;
   front = word;
 }
 
-pub words_after_separator : (p : Tokenizer) (text : List ℕ) (b : ℕ) → is_separator b ≡ true →
+pub words_after_separator : {p : Tokenizer} (text : List ℕ) (b : ℕ) → is_separator b ≡ true →
     (p.word ≡ []) × HasAdded p.builder (words text) → HasWords p (text ++ b ∷ [])
-words_after_separator p text b e k = record {
+words_after_separator text b e k = record {
   last = [];
   parted = IsParted-separator text b e;
   judged = rw ended_words-separator k.1;
   front = k.0;
 }
 
-more_bytes : (text bytes : List ℕ) (i b : ℕ) → i < length bytes → b ≡ get_or bytes i 0 →
+more_bytes : (text bytes : List ℕ) {i b : ℕ} → i < length bytes → b ≡ get_or bytes i 0 →
     (text ++ take i bytes) ++ b ∷ [] ≡ text ++ take (i + 1) bytes
-more_bytes text bytes i b inside at = append_assoc text _ _ ∙ rw at (rw (← take_more) refl)
+more_bytes text bytes inside at = append_assoc text _ _ ∙ rw at (rw (← take_more) refl)
 
 -- a fault that may be reported for the words of a text may be reported, whatever bytes follow
 pub fault_further : (d : ℕ) (text more : List ℕ) (f : GridFault) → IsWordFault d (ended_words text) f →
     IsWordFault d (ended_words (text ++ more)) f
 fault_further d text more f h =
     let next = ended-more text more in
-    reported_further _ _ (words_fault d (ended_words text)) (words_fault d (ended_words (text ++ more))) f
-    (λ asks. subst AsksAtHeight (sym next.1) (asks-more (ended_words text) next.0 asks))
-    (λ g e. ap (words_fault d) next.1 ∙ words_fault-more d (ended_words text) next.0 g e) h
+    reported_further f (λ asks. subst AsksAtHeight (sym next.1) (asks-more next.0 asks))
+    (λ g e. ap (words_fault d) next.1 ∙ words_fault-more d (ended_words text) next.0 e) h
 
 -- ---- a whole word within a piece
 
 -- where no word is unfinished, a word `w` that a separator follows is one more ended word
-parted_word : (p : Tokenizer) (text w : List ℕ) (h : HasWords p text) → p.word ≡ [] → list_any is_separator w ≡ false →
+parted_word : {p : Tokenizer} (text w : List ℕ) (h : HasWords p text) → p.word ≡ [] → list_any is_separator w ≡ false →
     0 < length w → words (text ++ w) ≡ ended_words text ++ w ∷ []
-parted_word p text w h e none some = h.parted.all w ∙ rw last-none (rw (words-plain w none ∙ filter-word w some) refl)
+parted_word text w h e none some = h.parted.all w ∙ rw last-none (rw (words-plain w none ∙ filter-word w some) refl)
 
 -- ---- the next bytes of a piece
 
@@ -113,13 +112,13 @@ module _ (text bytes rest : List ℕ) (at : ℕ) where
 
 -- let the `len` bytes at `at`, after a height, spell `value` (`IsPlain`), and the separator `b`
 -- follow. If `j` has added the cell of `value`, the height and the separator have been read
-pub plain_word : (p : Tokenizer) (j : GridBuilder) (text bytes rest : List ℕ) (at len b : ℕ) (value : ℤ) →
+pub plain_word : (p : Tokenizer) {j : GridBuilder} (text bytes rest : List ℕ) (at len b : ℕ) {value : ℤ} →
     HasWords p (text ++ take at bytes) → IsBetweenHeights p → rest ≡ drop at bytes →
     IsPlain p.builder.scale rest len value → at + len < length bytes → b ≡ get_or bytes (at + len) 0 →
     is_separator b ≡ true → j ≡ record p.builder { cells = j.cells } → ((ps : Pairs) (hs : List Word) (w : Word) →
     HasReadHeights p.builder ps hs → length w ≤ 64 → scaled_value p.builder.scale w ≡ Some value →
     HasReadHeights j ps (hs ++ w ∷ [])) → HasWords (record p { builder = j }) (text ++ take (at + len + 1) bytes)
-plain_word p j text bytes rest at len b value h between e plain inside is ends kept added =
+plain_word p {j} text bytes rest at len b h between e plain inside is ends kept added =
     let front = text ++ take at bytes in
     let w = take len rest in
     let size = length-take len rest in
@@ -127,14 +126,14 @@ plain_word p j text bytes rest at len b value h between e plain inside is ends k
     let ps = h.judged.pairs in
     let hs = h.judged.rest in
     let read =
-    judged-heights p.builder j (ended_words front) ps hs (w ∷ []) h.judged.header h.judged.words
-    (HasBegun-more hs (w ∷ []) there.0) (added ps hs w there.1 (omega (arith, plain.short, size)) plain.scaled)
+    judged-heights p.builder j ps hs (w ∷ []) h.judged.header h.judged.words (HasBegun-more hs (w ∷ []) there.0)
+    (added ps hs w there.1 (omega (arith, plain.short, size)) plain.scaled)
     (ap (λ (k : GridBuilder). k.header) kept) (ap (λ (k : GridBuilder). k.expected) kept ∙ between.0) in
     subst (HasWords (record p { builder = j }))
-    (ap (λ z. z ++ b ∷ []) (same_front text bytes rest at len e) ∙ more_bytes text bytes (at + len) b inside is)
-    (words_after_separator (record p { builder = j }) (front ++ w) b ends (
+    (ap (λ z. z ++ b ∷ []) (same_front text bytes rest at len e) ∙ more_bytes text bytes inside is)
+    (words_after_separator (front ++ w) b ends (
       between.1,
-      rw (parted_word p front w h between.1 plain.whole (omega (arith, plain.some, plain.within, size))) read,
+      rw (parted_word front w h between.1 plain.whole (omega (arith, plain.some, plain.within, size))) read,
     ))
 
 module _ (a b : Tokenizer) where
@@ -165,10 +164,10 @@ module _ (a b : Tokenizer) where
   taken_words c text bytes i j h k w = (taken_both c bytes 0 i j h k).words text (rw append-nil w)
 
 -- a fault that may be reported when the byte `b` at `at` has been read
-pub fault_at : (d d' : ℕ) (text bytes : List ℕ) (at b : ℕ) (f : GridFault) → d' ≡ d → at < length bytes →
+pub fault_at : {d d' : ℕ} (text bytes : List ℕ) (at b : ℕ) (f : GridFault) → d' ≡ d → at < length bytes →
     b ≡ get_or bytes at 0 → IsWordFault d' (ended_words ((text ++ take at bytes) ++ b ∷ [])) f →
     IsWordFault d (ended_words (text ++ bytes)) f
-fault_at d d' text bytes at b f same inside is k =
-    let read = rw (same, more_bytes text bytes at b inside is) at k in
+fault_at {d} text bytes at b f same inside is k =
+    let read = rw (same, more_bytes text bytes inside is) at k in
     rw (sym (same_whole text bytes (drop (at + 1) bytes) (at + 1) refl))
     (fault_further d (text ++ take (at + 1) bytes) (drop (at + 1) bytes) f read)

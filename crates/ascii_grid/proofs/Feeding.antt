@@ -94,7 +94,7 @@ so_far_stays d front more f h =
           h in
           so_far d (front ++ more) ∙ ap
           (λ o. option_or o (cond (nat_le (length (front ++ more)) most_bytes) None (Some TooLong)))
-          (ap (words_fault d) next.1 ∙ words_fault-more d (ended_words (take most_bytes front)) next.0 f shown)
+          (ap (words_fault d) next.1 ∙ words_fault-more d (ended_words (take most_bytes front)) next.0 shown)
     ]
 
 module _ (d : ℕ) where
@@ -105,7 +105,7 @@ module _ (d : ℕ) where
         | inr near ↦
             let last = ended-words text in
             few_fault d text near ∙ ap (λ o. option_or o (end_fault (words text))) (ap (words_fault d) last.1 ∙
-            words_fault-more d (ended_words text) last.0 f (sym (few_so_far d text near) ∙ h))
+            words_fault-more d (ended_words text) last.0 (sym (few_so_far d text near) ∙ h))
       ]
 
   pub fault_stays : (front more : List ℕ) (f : GridFault) → fault_so_far d front ≡ Some f →
@@ -116,16 +116,13 @@ module _ (d : ℕ) where
       IsRefusalSoFar d (front ++ more) f
   refusal_stays front more f h =
       let next = in_time-more front more in
-      reported_further _ _ (fault_so_far d front) (fault_so_far d (front ++ more)) f
-      (λ asks. subst AsksAtHeight (sym next.1) (asks-more (ended_words (take most_bytes front)) next.0 asks))
-      (so_far_stays d front more) h
+      reported_further f (λ asks. subst AsksAtHeight (sym next.1) (asks-more next.0 asks)) (so_far_stays d front more) h
 
   pub whole_refusal : (text : List ℕ) (f : GridFault) → IsRefusalSoFar d text f → IsRefusal d text f
   whole_refusal text f h =
       let next = in_time-judged text in
-      reported_further _ _ (fault_so_far d text) (text_fault d text) f (λ asks.
-      let more : AsksAtHeight (judged_words text) =
-      subst AsksAtHeight (sym next.1) (asks-more (ended_words (take most_bytes text)) next.0 asks) in
+      reported_further f (λ asks.
+      let more : AsksAtHeight (judged_words text) = subst AsksAtHeight (sym next.1) (asks-more next.0 asks) in
       (more.0, λ far. more.1)) (shown text) h
 
   pub stays : (front more : List ℕ) (f : GridFault) → IsRefusalSoFar d front f → IsRefusal d (front ++ more) f
@@ -136,11 +133,11 @@ module _ (d : ℕ) where
   refused : (front : List ℕ) (f : GridFault) → length front ≤ most_bytes → IsWordFault d (ended_words front) f →
       IsRefusalSoFar d front f
   refused front f short h =
-      reported_further _ _ _ _ f (subst (λ z. AsksAtHeight (ended_words z)) (sym (take_all most_bytes front short)))
+      reported_further f (subst (λ z. AsksAtHeight (ended_words z)) (sym (take_all most_bytes front short)))
       (λ g e. few_so_far d front short ∙ e) h
 
-read_none : (p : Tokenizer) (text : List ℕ) → HasWords p text → words_fault p.builder.scale (ended_words text) ≡ None
-read_none p text h = judged_none p.builder (ended_words text) h.judged
+read_none : {p : Tokenizer} {text : List ℕ} → HasWords p text → words_fault p.builder.scale (ended_words text) ≡ None
+read_none {p} {text} h = judged_none p.builder (ended_words text) h.judged
 
 -- ---- the end
 
@@ -150,7 +147,7 @@ asked text short asks = (rw le-leb asks, λ far. absurd (omega arith))
 module _ (d : ℕ) (text : List ℕ) where
   pub end_refused : (f : GridFault) → length text ≤ most_bytes → IsWordFault d (words text) f → IsRefusal d text f
   end_refused f short h =
-      reported_further _ _ _ _ f (λ asks. asked text short asks.0) (λ g e. few_fault d text short ∙ rw e refl) h
+      reported_further f (λ asks. asked text short asks.0) (λ g e. few_fault d text short ∙ rw e refl) h
 
   -- let a text of at most 2^29 bytes have no faulty word. A result that meets what
   -- `GridBuilder::finish` ensures meets the clauses `grid` and `fault` of `GridReader::finish`
@@ -159,8 +156,8 @@ module _ (d : ℕ) (text : List ℕ) where
       MatchResult r (IsGridText d text) (IsRefusal d text)
   finished r short none m =
       let reported = few_fault d text short ∙ ap (λ o. option_or o (end_fault (words text))) none in
-      MatchResult-weaker r m (λ g k. record { faultless = reported ∙ k.0; grid = k.1 }) (λ f k. reported_further _ _
-      (end_fault (words text)) (text_fault d text) f (asked text short) (λ g e. reported ∙ e) k)
+      MatchResult-weaker r m (λ g k. record { faultless = reported ∙ k.0; grid = k.1 })
+      (λ f k. reported_further f (asked text short) (λ g e. reported ∙ e) k)
 
   pub lawful_text : (g : Raster) → d ≤ 6 → IsGridText d text g → IsLawful g
   lawful_text g few h =
@@ -172,7 +169,7 @@ module _ (d : ℕ) (text : List ℕ) where
             let none =
             or_none (words_fault d (words text)) (end_fault (words text))
             (sym (few_fault d text near) ∙ h.faultless) in
-            subst IsLawful (sym h.grid) (lawful_words d (words text) few none.0 none.1)
+            subst IsLawful (sym h.grid) (lawful_words (words text) few none.0 none.1)
       ]
 
 -- ---- what a reader was fed
@@ -224,7 +221,7 @@ module _ (w : Tokenizer) (n : ℕ) (text piece : List ℕ) (within : ℕ) (cut :
         full,
         over,
         length-append text piece,
-      )) ∙ rw (in_time, read_none p (text ++ take within piece) next) refl)
+      )) ∙ rw (in_time, read_none next) refl)
 
   -- after a piece that fits and has no fault, the reader has read the text and the piece
   pub fed_whole : (p : Tokenizer) → length piece ≤ within → HasWords p (text ++ take within piece) →
@@ -239,8 +236,7 @@ module _ (w : Tokenizer) (n : ℕ) (text piece : List ℕ) (within : ℕ) (cut :
       }
 
 pub faultless : (r : Reader) (text : List ℕ) → IsReading r text → fault_so_far r.scale text ≡ None
-faultless r text h =
-    rw (← h.same_scale) (few_so_far r.words.builder.scale text h.short ∙ read_none r.words text h.words_of)
+faultless r text h = rw (← h.same_scale) (few_so_far r.words.builder.scale text h.short ∙ read_none h.words_of)
 
 -- ---- one piece after another
 
@@ -252,10 +248,10 @@ has_fault b text (Ok x) e h = (faultless b text (is_reading b text e h), tt)
 has_fault b text (Err f) e h = (tt, answered b text f e h)
 
 -- `Feeds` follows from its fields `scale`, `taken`, `fault` and `again`
-pub Feeds-taken : {T : Type 0} (a b : Reader) (piece : List ℕ) (r : Result T GridFault) → b.scale ≡ a.scale →
+pub Feeds-taken : {T : Type 0} {a b : Reader} {piece : List ℕ} {r : Result T GridFault} → b.scale ≡ a.scale →
     ((text : List ℕ) → WasFed a text → WasFed b (text ++ piece)) → b.fault ≡ result_err r →
     ((f : GridFault) → a.fault ≡ Some f → r ≡ Err f) → Feeds a b piece r
-Feeds-taken a b piece r scale taken fault again = record {
+Feeds-taken {b} {piece} {r} scale taken fault again = record {
   scale = scale;
   taken = taken;
   ok = λ text h. rw (← scale) (has_fault b (text ++ piece) r fault (taken text h)).0;

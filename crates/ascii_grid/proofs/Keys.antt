@@ -25,29 +25,29 @@ keys_are Xll = (refl, (refl, tt))
 keys_are Yll = (refl, (refl, tt))
 keys_are slot = (refl, tt)
 
-among : (slot : Key) (keys : List Word) (w : Word) → AreOf slot keys → list_any (λ key. bytes_eq key w) keys ≡ true →
+among : {slot : Key} (keys : List Word) (w : Word) → AreOf slot keys → list_any (λ key. bytes_eq key w) keys ≡ true →
     slot_at w ≡ Some slot
-among slot [] w are any = cc
-among slot (key ∷ keys) w are any =
+among [] w are any = cc
+among {slot} (key ∷ keys) w are any =
     elim (cases_Bool _) [
       | inl here ↦ ap slot_at (sym ((bytes_eq-Decides key w).0 here)) ∙ are.0
-      | inr apart ↦ among slot keys w are.1 (rw apart at any)
+      | inr apart ↦ among keys w are.1 (rw apart at any)
     ]
 
 pub slot_filled : (w : Word) (slot : Key) → fills slot w ≡ true → slot_of w ≡ Some slot
-slot_filled w slot h = among slot _ _ (keys_are slot) h
+slot_filled w slot h = among _ _ (keys_are slot) h
 
-passes : (t : Key → Bool) (slots : List Key) (slot : Key) → find t slots ≡ Some slot → t slot ≡ true
-passes t [] slot h = cc
-passes t (s ∷ slots) slot h =
+passes : (t : Key → Bool) (slots : List Key) {slot : Key} → find t slots ≡ Some slot → t slot ≡ true
+passes t [] h = cc
+passes t (s ∷ slots) {slot} h =
     elim (cases_Bool (t s)) [
       | inl here ↦ rw (sym (same_Some s slot (rw here at h))) here
-      | inr apart ↦ passes t slots slot (rw apart at h)
+      | inr apart ↦ passes t slots (rw apart at h)
     ]
 
 module _ (w : Word) (slot : Key) where
   pub fills_slot : slot_of w ≡ Some slot → fills slot w ≡ true
-  fills_slot h = passes (λ s. fills s w) all_slots slot h
+  fills_slot h = passes (λ s. fills s w) all_slots h
 
   pub fills_none_else : (s : Key) → slot_of w ≡ Some slot → (s ≡ slot → ⊥) → fills s w ≡ false
   fills_none_else s h other =

@@ -6,27 +6,28 @@ use Rattle.std.proofs.KnownBytes.{Appends-trans, Consumes-trans, Consumes-kept}
 use Rattle.std.proofs.lemmas.List.{length-append, length-take-le}
 use Rattle.ascii_grid.specs.Device.{Device, HasRead, HasWritten, Moves}
 
-Moves-more : (a b c : ℕ) (x y : List ℕ) → Moves a b (length x) → Moves b c (length y) → Moves a c (length (x ++ y))
-Moves-more a b c x y h k = omega (arith, length-append x y, k)
+Moves-more : {b c : ℕ} (a : ℕ) (x y : List ℕ) → Moves a b (length x) → Moves b c (length y) →
+    Moves a c (length (x ++ y))
+Moves-more a x y h k = omega (arith, length-append x y, k)
 
-pub written_more : {W : Type 0} (contents : W → Option (List ℕ)) (a b c : Device W) (x y : List ℕ) →
+pub written_more : {W : Type 0} {contents : W → Option (List ℕ)} {a b c : Device W} {x y : List ℕ} →
     HasWritten contents a b x → HasWritten contents b c y → HasWritten contents a c (x ++ y)
-written_more contents a b c x y h k = record {
+written_more {x} {y} h k = record {
   known = Appends-trans _ _ _ x y h.known k.known;
-  moved = Moves-more _ _ _ x y h.moved k.moved;
+  moved = Moves-more _ x y h.moved k.moved;
 }
 
 pub read_more : {R : Type 0} (remaining : R → Option (List ℕ)) (a b c : Device R) (x y : List ℕ) →
     HasRead remaining a b x → HasRead remaining b c y → HasRead remaining a c (x ++ y)
 read_more remaining a b c x y h k = record {
   known = Consumes-trans _ _ _ x y h.known k.known;
-  moved = Moves-more _ _ _ x y h.moved k.moved;
+  moved = Moves-more _ x y h.moved k.moved;
 }
 
-pub written_some : {W : Type 0} (contents : W → Option (List ℕ)) (a b : Device W) (n : ℕ) (bytes : List ℕ) →
+pub written_some : {W : Type 0} {contents : W → Option (List ℕ)} {a b : Device W} {n : ℕ} (bytes : List ℕ) →
     n ≤ length bytes → Appends (contents a.device) (contents b.device) (take n bytes) → Moves a.moved b.moved n →
     HasWritten contents a b (take n bytes)
-written_some contents a b n bytes within known moved =
+written_some bytes within known moved =
     record { known = known; moved = rw length-take-le moved }
 
 module _ {R : Type 0} (remaining : R → Option (List ℕ)) (a b : Device R) where

@@ -100,18 +100,18 @@ pub record IsClean (w : List ℕ) : Type 0 where
   pub some : is_word w ≡ true
   pub plain : list_any is_separator w ≡ false
 
-pub words-word : (w rest : List ℕ) (b : ℕ) → IsClean w → is_separator b ≡ true → words (w ++ b ∷ rest) ≡ w ∷ words rest
-words-word w rest b h s = words-at w rest b s ∙ rw (words-plain w h.plain ∙ cond-true _ _ _ h.some) refl
+pub words-word : {w : List ℕ} (rest : List ℕ) (b : ℕ) → IsClean w → is_separator b ≡ true →
+    words (w ++ b ∷ rest) ≡ w ∷ words rest
+words-word {w} rest b h s = words-at w rest b s ∙ rw (words-plain w h.plain ∙ cond-true _ _ _ h.some) refl
 
 pub words-row : {X : Type 0} (f : X → List ℕ) (cells : List X) (rest : List ℕ) → 0 < length cells →
     All (λ c. IsClean (f c)) cells →
     words ((join_with_byte 32 (map f cells) ++ 10 ∷ []) ++ rest) ≡ map f cells ++ words rest
 words-row f [] rest h clean = absurd (omega arith)
 words-row f (c ∷ []) rest h clean =
-    ap words (append_assoc (f c) (10 ∷ []) rest) ∙
-    words-word (f c) rest 10 (All-head (λ c. IsClean (f c)) c [] clean) refl
+    ap words (append_assoc (f c) (10 ∷ []) rest) ∙ words-word rest 10 (All-head (λ c. IsClean (f c)) c [] clean) refl
 words-row f (c ∷ d ∷ cells) rest h clean =
-    ap words (regroup (f c) (join_with_byte 32 (map f (d ∷ cells))) (10 ∷ []) rest) ∙ words-word (f c)
+    ap words (regroup (f c) (join_with_byte 32 (map f (d ∷ cells))) (10 ∷ []) rest) ∙ words-word
     ((join_with_byte 32 (map f (d ∷ cells)) ++ 10 ∷ []) ++ rest) 32 (All-head (λ c. IsClean (f c)) c (d ∷ cells) clean)
     refl ∙ ap (λ ws. f c ∷ ws)
     (words-row f (d ∷ cells) rest (omega arith) (All-tail (λ c. IsClean (f c)) c (d ∷ cells) clean)) where

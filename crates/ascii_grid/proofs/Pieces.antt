@@ -116,12 +116,12 @@ module _ {R : Type 0} (remaining : R → Option (List ℕ)) (first old new : Dev
   }
 
 -- at the end of the text, a result that meets what `finish_grid` ensures meets `ReadsGrid`
-pub pieces_ended : {R : Type 0} (remaining : R → Option (List ℕ)) (first now : Device R) (scale taken : ℕ) (r : Reader)
+pub pieces_ended : {R : Type 0} {remaining : R → Option (List ℕ)} {first now : Device R} {scale taken : ℕ} {r : Reader}
     (result : Result Raster InputFault) → HasFedSoFar remaining first now scale r taken →
     IsAtEnd (remaining now.device) → ((text : List ℕ) → WasFed r text → IfOk result (λ g. IsGridText r.scale text g)) →
     ((text : List ℕ) (f : GridFault) → WasFed r text → result ≡ Err (Grid f) → IsRefusal r.scale text f) →
     result ≢ Err Read → ReadsGrid remaining scale first now result
-pieces_ended remaining first now scale taken r result held end grid fault sound =
+pieces_ended {taken} result held end grid fault sound =
     record {
       taken = record { bytes = held.text; read = held.read; few = omega arith };
       grid = IfOk-weaker result _ _ (λ g is. (is, end)) (rw held.scale_kept at (grid held.text held.fed));

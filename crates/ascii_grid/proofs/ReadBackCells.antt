@@ -31,11 +31,11 @@ use Rattle.ascii_grid.proofs.Decimals.{decimal_digits, last_digits_digits, lengt
 abbrev pub body : ℕ → ℕ → List ℕ
 body d n = decimal (n / 10 ^ d) ++ decimals_text d n
 
-whole_small : (d n : ℕ) → n < 2 ^ 64 → n / 10 ^ d < 2 ^ 64
-whole_small d n h = omega (arith)
+whole_small : {n : ℕ} (d : ℕ) → n < 2 ^ 64 → n / 10 ^ d < 2 ^ 64
+whole_small d h = omega (arith)
 
 whole_no_point : (d n : ℕ) → n < 2 ^ 64 → list_any is_point (decimal (n / 10 ^ d)) ≡ false
-whole_no_point d n h = any-digits is_point (decimal (n / 10 ^ d)) no_point (decimal_digits _ (whole_small d n h))
+whole_no_point d n h = any-digits is_point (decimal (n / 10 ^ d)) no_point (decimal_digits _ (whole_small d h))
 
 decimals_no_mark : (d n : ℕ) → list_any is_exponent_mark (decimals_text d n) ≡ false
 decimals_no_mark zero n = refl
@@ -45,7 +45,7 @@ decimals_no_mark (suc d) n =
 body_no_mark : (d n : ℕ) → n < 2 ^ 64 → list_any is_exponent_mark (body d n) ≡ false
 body_no_mark d n h =
     list_any-append is_exponent_mark (decimal (n / 10 ^ d)) (decimals_text d n) ∙ or_from _ _
-    (any-digits is_exponent_mark (decimal (n / 10 ^ d)) no_exponent (decimal_digits (n / 10 ^ d) (whole_small d n h)))
+    (any-digits is_exponent_mark (decimal (n / 10 ^ d)) no_exponent (decimal_digits (n / 10 ^ d) (whole_small d h)))
     (decimals_no_mark d n)
 
 body_whole : (d n : ℕ) → n < 2 ^ 64 → before_first is_point (body d n) ≡ decimal (n / 10 ^ d)
@@ -69,7 +69,7 @@ length-decimals d n = omega (arith, length-last_digits)
 module _ (d : ℕ) where
   -- `body` begins with a digit, so it has no sign
   body_unsigned : (n : ℕ) → n < 2 ^ 64 → (without_sign (body d n) ≡ body d n) × (is_negative (body d n) ≡ false)
-  body_unsigned n h = bare_digits _ _ (decimal_nonempty _ (whole_small d n h)) (decimal_digits _ (whole_small d n h))
+  body_unsigned n h = bare_digits _ _ (decimal_nonempty _ (whole_small d h)) (decimal_digits _ (whole_small d h))
 
   pub decimal_from_value : (w : Word) (z : ℤ) → scaled_value d w ≡ Some z → is_decimal w ≡ true
   decimal_from_value w z e = elim (cases_Bool (has_scaled_value d w)) [
@@ -82,14 +82,14 @@ module _ (d : ℕ) where
       scaled_value d w ≡ Some (cond (is_negative w) (neg_ℤ (pos n)) (pos n))
   written_value n w unsigned plain few =
       let small : n < 2 ^ 64 = omega (arith, few) in
-      let digits = decimal_digits (n / 10 ^ d) (whole_small d n small) in
+      let digits = decimal_digits (n / 10 ^ d) (whole_small d small) in
       let kept : take d (last_digits d n ++ replicate d 48) ≡ last_digits d n =
       take_at (last_digits d n) (replicate d 48) d (length-last_digits d n) in
       let none : drop d (last_digits d n) ≡ [] = drop_all d (last_digits d n) (omega (arith, length-last_digits d n)) in
       scaled_value-digits d w (decimal (n / 10 ^ d)) (last_digits d n) (Some n) plain
       (sym (ap (before_first is_point) unsigned ∙ body_whole d n small))
       (sym (ap (after_first is_point) unsigned ∙ body_fraction d n small)) (are_digits_joined (decimal (n / 10 ^ d))
-      (last_digits d n) (decimal_nonempty (n / 10 ^ d) (whole_small d n small)) ∙
+      (last_digits d n) (decimal_nonempty (n / 10 ^ d) (whole_small d small)) ∙
       rw (digits, last_digits_digits d n) refl) (rw (none, kept, scaled_digits d n small, le-leb n (10 ^ 18) few) refl)
 
   text-pos : (n : ℕ) → height_text d (pos n) ≡ body d n
@@ -112,7 +112,7 @@ module _ (d : ℕ) where
       let all = sym (pow-add 10 _ d) ∙ ap (10 ^◌) sixteen in
       let some : 0 < 10 ^ d = let k = one-le-pow d 10 (omega arith) in omega (arith, k) in
       let small : n / 10 ^ d < 10 ^ (16 - d) = (div-lt_iff_lt-mul some).1 (omega (arith, all, h)) in
-      let l = length-decimal-le _ _ (omega (arith, few)) small (whole_small d n (omega (arith, h))) in
+      let l = length-decimal-le _ _ (omega (arith, few)) small (whole_small d (omega (arith, h))) in
       omega (arith, l, few)
 
   body_short : (n : ℕ) → d ≤ 6 → n ≤ 10 ^ 15 → length (body d n) ≤ 17
@@ -177,26 +177,25 @@ reads_cell d nodata (Some z) few h height apart =
 
 -- if the text of each of `cells`, the grid's last cells, reads as that cell, these texts have no
 -- fault as heights after a header without missing slots and `place` other heights
-pub no_heights_fault : (d : ℕ) (header : List Word) (nodata : Word) (place : ℕ) (cells : List (Option ℤ)) →
+pub no_heights_fault : {d : ℕ} (header : List Word) {nodata : Word} (place : ℕ) (cells : List (Option ℤ)) →
     missing_fault header ≡ None → nodata_for header ≡ nodata → place + length cells ≡ cells_wanted header →
     All (λ c. ReadsAs d nodata c (cell_text (height_text d) nodata c)) cells →
     heights_fault d header place (map (cell_text (height_text d) nodata) cells) ≡ None
-no_heights_fault d header nodata place [] whole same size reads = refl
-no_heights_fault d header nodata place (c ∷ cells) whole same size reads =
+no_heights_fault header place [] whole same size reads = refl
+no_heights_fault {d} header {nodata} place (c ∷ cells) whole same size reads =
     let w = cell_text (height_text d) nodata c in
     let here = All-head (λ c. ReadsAs d nodata c (cell_text (height_text d) nodata c)) c cells reads in
     let rest = All-tail (λ c. ReadsAs d nodata c (cell_text (height_text d) nodata c)) c cells reads in
     let none =
-    height_fault-none d header place w (ltb-false 64 _ here.short) whole (omega arith)
+    height_fault-none d header w (ltb-false 64 _ here.short) whole (omega arith)
     (ap (λ n. is_cell d n w) same ∙ here.is) in
     ap (λ o. option_or o (heights_fault d header (place + 1) (map (cell_text (height_text d) nodata) cells))) none ∙
-    no_heights_fault d header nodata (place + 1) cells whole same (omega (arith, size)) rest
+    no_heights_fault header (place + 1) cells whole same (omega (arith, size)) rest
 
-pub cells_again : (d : ℕ) (nodata : Word) (cells : List (Option ℤ)) →
+pub cells_again : {d : ℕ} {nodata : Word} (cells : List (Option ℤ)) →
     All (λ c. ReadsAs d nodata c (cell_text (height_text d) nodata c)) cells →
     map (spelled_cell d nodata) (map (cell_text (height_text d) nodata) cells) ≡ cells
-cells_again d nodata [] reads = refl
-cells_again d nodata (c ∷ cells) reads =
+cells_again [] reads = refl
+cells_again {d} {nodata} (c ∷ cells) reads =
     rw (All-head (λ c. ReadsAs d nodata c (cell_text (height_text d) nodata c)) c cells reads).value (rw
-    (cells_again d nodata cells (All-tail (λ c. ReadsAs d nodata c (cell_text (height_text d) nodata c)) c cells reads))
-    refl)
+    (cells_again cells (All-tail (λ c. ReadsAs d nodata c (cell_text (height_text d) nodata c)) c cells reads)) refl)

@@ -24,11 +24,11 @@ record IsFalseOnDecimalBytes (q : ℕ → Bool) : Type 0 where
   mark : q 101 ≡ false
   capital : q 69 ≡ false
 
-position-at : (p : ℕ → Bool) (xs ys : List ℕ) (y : ℕ) → list_any p xs ≡ false → p y ≡ true →
+position-at : (p : ℕ → Bool) (xs ys : List ℕ) {y : ℕ} → list_any p xs ≡ false → p y ≡ true →
     position_or_len p (xs ++ y ∷ ys) ≡ length xs
-position-at p [] ys y h k = rw k
-position-at p (x ∷ xs) ys y h k = let parts = or_parts _ (list_any p xs) h in
-    rw parts.0 (omega (arith, position-at p xs ys y parts.1 k))
+position-at p [] ys h k = rw k
+position-at p (x ∷ xs) ys {y} h k = let parts = or_parts _ (list_any p xs) h in
+    rw parts.0 (omega (arith, position-at p xs ys parts.1 k))
 
 module _ (p : ℕ → Bool) (xs ys : List ℕ) (y : ℕ) where
   pub before_first-at : list_any p xs ≡ false → p y ≡ true → before_first p (xs ++ y ∷ ys) ≡ xs
@@ -36,7 +36,7 @@ module _ (p : ℕ → Bool) (xs ys : List ℕ) (y : ℕ) where
 
   pub after_first-at : list_any p xs ≡ false → p y ≡ true → after_first p (xs ++ y ∷ ys) ≡ ys
   after_first-at h k =
-      rw (position-at p xs ys y h k)
+      rw (position-at p xs ys h k)
       (rw (← append_assoc xs (y ∷ []) ys) (drop_at (xs ++ y ∷ []) ys (length xs + 1) (length-append xs (y ∷ []))))
 
 after_first-step : (p : ℕ → Bool) (b : ℕ) (bs : List ℕ) → p b ≡ false → after_first p (b ∷ bs) ≡ after_first p bs
@@ -61,10 +61,10 @@ one_of P b m n h x y = elim (or_cases _ _ h) [
   | inr e ↦ rw (← eqb-true b n e) at y
 ]
 
-signed_bytes : (q : ℕ → Bool) → IsFalseOnDecimalBytes q → (w : List ℕ) → list_any q (without_sign w) ≡ false →
+signed_bytes : {q : ℕ → Bool} → IsFalseOnDecimalBytes q → (w : List ℕ) → list_any q (without_sign w) ≡ false →
     list_any q w ≡ false
-signed_bytes q none [] h = refl
-signed_bytes q none (b ∷ bs) h = elim (cases_Bool _) [
+signed_bytes none [] h = refl
+signed_bytes {q} none (b ∷ bs) h = elim (cases_Bool _) [
   | inl s ↦ or_from _ _ (one_of (λ c. q c ≡ false) b 43 45 s none.plus none.minus)
       (rw (← cond-true (is_sign b) bs (b ∷ bs) s) h)
   | inr n ↦ ap (list_any q) (sym (cond-false (is_sign b) bs (b ∷ bs) n)) ∙ h
@@ -89,7 +89,7 @@ module _ (q : ℕ → Bool) where
       list_any q (after_first is_exponent_mark w) ≡ false
   exponent_bytes none w h = elim (or_cases _ _ h) [
     | inl n ↦ rw (after_first-none is_exponent_mark w (not-true _ n)) refl
-    | inr d ↦ signed_bytes q none _
+    | inr d ↦ signed_bytes none _
         (any-digits q _ none.digits (digits_all (without_sign (after_first is_exponent_mark w)) d))
   ]
 
@@ -106,7 +106,7 @@ module _ (q : ℕ → Bool) where
   decimal_bytes : IsFalseOnDecimalBytes q → (w : List ℕ) → is_decimal w ≡ true → list_any q w ≡ false
   decimal_bytes none w h =
       let parts = and_parts _ _ h in
-      signed_bytes q none w (list_any-around is_exponent_mark q
+      signed_bytes none w (list_any-around is_exponent_mark q
       (λ b e. one_of (λ c. q c ≡ false) b 101 69 e none.mark none.capital) _ (mantissa_bytes none w parts.0)
       (ap (list_any q) (exponent_of_unsigned w) ∙ exponent_bytes none w parts.1))
 

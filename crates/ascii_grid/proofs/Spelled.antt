@@ -158,7 +158,7 @@ module _ (j : GridBuilder) (ws : List Word) where
   end-key f h e =
       let same = at_key j ws h e in
       let are = words-whole h.pairs h.header.keys in
-      reported_further _ _ (missing_fault (flat h.pairs)) (end_fault ws) f (λ whole. rw same (record {
+      reported_further f (λ whole. rw same (record {
         faultless = rw are.0 h.header.faultless;
         paired = rw are.0 (paired h.pairs);
         given = rw are.0 whole;
@@ -176,20 +176,20 @@ some_wanted header none missing =
 
 -- where a key or the first height comes next and no required slot is missing, the fault at the end
 -- is `TooFew 0`
-pub end-none : (j j' : GridBuilder) (ws : List Word) (h : HasAdded j ws) → j.expected ≡ AtKey →
+pub end-none : {j j' : GridBuilder} (ws : List Word) (h : HasAdded j ws) → j.expected ≡ AtKey →
     HasReadHeights j' h.pairs [] → end_fault ws ≡ Some (TooFew 0)
-end-none j j' ws h e heights =
+end-none {j} ws h e heights =
     let are = words-whole h.pairs h.header.keys in
     let some : nat_lt 0 (cells_wanted (flat h.pairs)) ≡ true =
     lt-ltb 0 (cells_wanted (flat h.pairs))
     (let k = some_wanted (flat h.pairs) h.header.faultless heights.whole in omega (arith, k)) in
     ap end_fault (at_key j ws h e) ∙ rw (are.0, paired h.pairs, heights.whole, are.1, some) refl
 
-pub end-heights : (j : GridBuilder) (ws : List Word) (h : HasAdded j ws) → j.expected ≡ AtHeights →
+pub end-heights : {j : GridBuilder} {ws : List Word} (h : HasAdded j ws) → j.expected ≡ AtHeights →
     end_fault ws ≡ cond (nat_lt (length j.cells.items) j.wanted) (Some (TooFew (length j.cells.items))) None
-end-heights j ws h e =
+end-heights {j} {ws} h e =
     let there = at_heights j ws h e in
-    let are = words-after _ _ _ h.header there.0 in
+    let are = words-after h.header there.0 in
     ap end_fault h.words ∙ rw (are.0, paired, there.1.whole, are.1, place_of j _ _ there.1, there.1.wanted)
 
 centre_of : (o : Option (Word × Word)) →
@@ -206,9 +206,9 @@ word_of m = refl
 
 -- if the words `ws` are the pairs `ps` and then the heights `hs`, the slots of `ps` and the cells
 -- of `hs` make the grid that `ws` spell
-raster_of-grid_of : (d : ℕ) (ps : Pairs) (ws hs : List Word) → header_words ws ≡ flat ps → height_words ws ≡ hs →
+raster_of-grid_of : {d : ℕ} (ps : Pairs) (ws hs : List Word) → header_words ws ≡ flat ps → height_words ws ≡ hs →
     raster_of (slots_of ps) d (nodata_for (flat ps)) (map (spelled_cell d (nodata_for (flat ps))) hs) ≡ grid_of d ws
-raster_of-grid_of d ps ws hs header heights =
+raster_of-grid_of ps ws hs header heights =
     rw (header, heights, pairs-flat, number-of_pair, number-of_pair, centre_of, word_of, centre_of, word_of)
 
 nodata_ok : (header : List Word) → header_fault [] header ≡ None → IsHeaderWord (nodata_for header)
@@ -218,9 +218,9 @@ nodata_ok header none = go _ (valid _ header Nodata none)
     go None ok = (lit≤ tt, refl)
     go (Some w) ok = (ok.1, ok.0)
 
-pub lawful_words : (d : ℕ) (ws : List Word) → d ≤ 6 → words_fault d ws ≡ None → end_fault ws ≡ None →
+pub lawful_words : {d : ℕ} (ws : List Word) → d ≤ 6 → words_fault d ws ≡ None → end_fault ws ≡ None →
     IsLawful (grid_of d ws)
-lawful_words d ws few faultless end =
+lawful_words {d} ws few faultless end =
     let header = header_words ws in
     let heights = height_words ws in
     let first = or_none (header_fault [] header) _ faultless in
@@ -264,13 +264,13 @@ module _ (j : GridBuilder) (ws : List Word) where
       raster_of j.header j.scale j.nodata j.cells.items ≡ grid_of j.scale ws
   spelled-grid h e =
       let there = at_heights j ws h e in
-      let are = words-after _ _ _ h.header there.0 in
+      let are = words-after h.header there.0 in
       rw h.header.slots (rw there.1.cells
       (ap (λ n. raster_of (slots_of h.pairs) j.scale n (map (spelled_cell j.scale n) h.rest)) there.1.nodata ∙
-      raster_of-grid_of _ _ ws _ (ap header_words h.words ∙ are.0) (ap height_words h.words ∙ are.1)))
+      raster_of-grid_of _ ws _ (ap header_words h.words ∙ are.0) (ap height_words h.words ∙ are.1)))
 
   pub lawful-grid : HasAdded j ws → j.expected ≡ AtHeights → j.scale ≤ 6 → j.wanted ≤ length j.cells.items →
       IsLawful (raster_of j.header j.scale j.nodata j.cells.items)
   lawful-grid h e scale enough =
-      subst IsLawful (sym (spelled-grid h e)) (lawful_words j.scale ws scale (judged_none j ws h)
-      (end-heights j ws h e ∙ cond-false _ _ _ (le-ltb (length j.cells.items) j.wanted enough)))
+      subst IsLawful (sym (spelled-grid h e)) (lawful_words ws scale (judged_none j ws h)
+      (end-heights h e ∙ cond-false _ _ _ (le-ltb (length j.cells.items) j.wanted enough)))

@@ -16,20 +16,20 @@ use Rattle.ascii_grid.proofs.Parting.{words-parted, ended_words-separator, ended
 
 -- ---- the words of a longer text
 
-parted-more : (text : List ℕ) (w : Word) (more : List ℕ) → IsParted text w →
+parted-more : {text : List ℕ} {w : Word} (more : List ℕ) → IsParted text w →
     (last : Word) × IsParted (text ++ more) last
-parted-more text w [] h = (w, subst (λ t. IsParted t w) (sym (append-nil text)) h)
-parted-more text w (b ∷ more) h = rw (sym (append_assoc text (b ∷ []) more)) (
+parted-more {text} {w} [] h = (w, subst (λ t. IsParted t w) (sym (append-nil text)) h)
+parted-more {text} {w} (b ∷ more) h = rw (sym (append_assoc text (b ∷ []) more)) (
     elim (cases_Bool _) [
-      | inl ends ↦ parted-more (text ++ b ∷ []) [] more (IsParted-separator text b ends)
+      | inl ends ↦ parted-more more (IsParted-separator text b ends)
       | inr stays ↦
-          parted-more (text ++ b ∷ []) (w ++ b ∷ []) more (IsParted-byte text w b h stays)
+          parted-more more (IsParted-byte text w b h stays)
     ]
     )
 
 pub ended-words : (text : List ℕ) → (others : List Word) × (words text ≡ ended_words text ++ others)
 ended-words text =
-    let at = parted-more _ _ text IsParted-none in
+    let at = parted-more text IsParted-none in
     (filter is_word (at.0 ∷ []), words-parted text _ at.1)
 
 ended-byte : (text : List ℕ) (b : ℕ) →
@@ -59,10 +59,10 @@ or_more : {X : Type 0} (o p q : Option X) (f : X) → option_or o p ≡ Some f �
 or_more None p q f h k = k h
 or_more x p q f h k = h
 
-heights_more : (d : ℕ) (header : List Word) (place : ℕ) (hs more : List Word) (f : GridFault) →
+heights_more : (d : ℕ) (header : List Word) (place : ℕ) (hs more : List Word) {f : GridFault} →
     heights_fault d header place hs ≡ Some f → heights_fault d header place (hs ++ more) ≡ Some f
-heights_more d header place [] more f h = cc
-heights_more d header place (w ∷ hs) more f h = or_more _ _ _ f h (heights_more d header (place + 1) hs more f)
+heights_more d header place [] more h = cc
+heights_more d header place (w ∷ hs) more {f} h = or_more _ _ _ f h (heights_more d header (place + 1) hs more)
 
 -- the first fault of the words `ws` after `front`, the front of a header with the keys `before`
 abbrev after_front : ℕ → List Word → List Word → List Word → Option GridFault
@@ -99,7 +99,7 @@ after_front-more d before front (k ∷ []) (v ∷ more) f h =
           after_front-pair d before front k v more letter ∙ or_more _ None _ f (sym first ∙ h) (λ e. absurd cc)
       | inr height ↦
           after_front-height d before front k (v ∷ more) height ∙
-          heights_more d (front ++ []) 0 (k ∷ []) (v ∷ more) f (sym (after_front-height d before front k [] height) ∙ h)
+          heights_more d (front ++ []) 0 (k ∷ []) (v ∷ more) (sym (after_front-height d before front k [] height) ∙ h)
     ]
 after_front-more d before front (k ∷ v ∷ rest) more f h =
     elim (cases_Bool _) [
@@ -111,12 +111,12 @@ after_front-more d before front (k ∷ v ∷ rest) more f h =
           (λ e. or_more (value_fault k v) _ _ f e (after_front-more d (k ∷ before) (front ++ k ∷ v ∷ []) rest more f))
       | inr height ↦
           after_front-height d before front k (v ∷ rest ++ more) height ∙ heights_more d (front ++ []) 0 (k ∷ v ∷ rest)
-          more f (sym (after_front-height d before front k (v ∷ rest) height) ∙ h)
+          more (sym (after_front-height d before front k (v ∷ rest) height) ∙ h)
     ]
 
-pub words_fault-more : (d : ℕ) (ws more : List Word) (f : GridFault) → words_fault d ws ≡ Some f →
+pub words_fault-more : (d : ℕ) (ws more : List Word) {f : GridFault} → words_fault d ws ≡ Some f →
     words_fault d (ws ++ more) ≡ Some f
-words_fault-more d ws more f h = after_front-more d _ [] ws more f h
+words_fault-more d ws more {f} h = after_front-more d _ [] ws more f h
 
 -- ---- want of memory
 
@@ -143,8 +143,8 @@ same_header (k ∷ v ∷ rest) more h =
       | inr height ↦ (rw height refl, rw height refl)
     ]
 
-pub asks-more : (ws more : List Word) → AsksAtHeight ws → AsksAtHeight (ws ++ more)
-asks-more ws more h =
+pub asks-more : {ws : List Word} (more : List Word) → AsksAtHeight ws → AsksAtHeight (ws ++ more)
+asks-more {ws} more h =
     let same = same_header ws more h.1 in (
       record {
         faultless = ap (header_fault []) same.0 ∙ h.0.faultless;

@@ -23,15 +23,15 @@ line_short f (c ∷ d ∷ cells) h short =
     let rest = line_short f (d ∷ cells) (omega arith) (All-tail (λ x. length (f x) ≤ 30) c (d ∷ cells) short) in
     omega (arith, here, rest, length-append (f c) (32 ∷ join_with_byte 32 (map f (d ∷ cells))))
 
-rows_short : {X : Type 0} (f : X → List ℕ) (cols n : ℕ) (cells : List X) → 0 < cols → length cells ≡ n * cols →
+rows_short : {X : Type 0} (f : X → List ℕ) {cols : ℕ} (n : ℕ) (cells : List X) → 0 < cols → length cells ≡ n * cols →
     All (λ c. length (f c) ≤ 30) cells → length (rows_text f cols n cells) ≤ 31 * length cells
-rows_short f cols zero cells h size short = omega arith
-rows_short f cols (suc n) cells h size short =
+rows_short f zero cells h size short = omega arith
+rows_short f {cols} (suc n) cells h size short =
     let front : length (take cols cells) ≡ cols = length-take-le cols cells (omega (arith, size)) in
     let back : length (drop cols cells) ≡ n * cols = omega (arith, size, length-drop cols cells) in
     let line =
     line_short f (take cols cells) (omega (arith, front)) (All-take (λ c. length (f c) ≤ 30) cols cells short) in
-    let rest = rows_short f cols n (drop cols cells) h back (All-drop (λ c. length (f c) ≤ 30) cols cells short) in
+    let rest = rows_short f n (drop cols cells) h back (All-drop (λ c. length (f c) ≤ 30) cols cells short) in
     let row = length-append (join_with_byte 32 (map f (take cols cells))) (10 ∷ []) in
     let both = length-append (row_text f (take cols cells)) (rows_text f cols n (drop cols cells)) in
     omega (arith, size, front, back, line, rest, row, both)
@@ -45,16 +45,16 @@ anchor_length corner centre a h k =
     let key = cond_both a.centre centre corner (λ z. length z ≡ 14) (λ _. k) (λ _. h) in
     omega (arith, line_length (cond a.centre centre corner) a.word, key)
 
-size_digits : (n : ℕ) → n ≤ 4096 → length (decimal n) ≤ 4
-size_digits n h = length-decimal-le 4 n (omega arith) (omega arith) (omega arith)
+size_digits : {n : ℕ} → n ≤ 4096 → length (decimal n) ≤ 4
+size_digits {n} h = length-decimal-le 4 n (omega arith) (omega arith) (omega arith)
 
 module _ (g : Raster) where
   header_short : IsLawful g → length (header_text g g.nodata) ≤ 400
   header_short h =
       let xll = anchor_length (codes "xllcorner     ") (codes "xllcenter     ") g.xll refl refl in
       let yll = anchor_length (codes "yllcorner     ") (codes "yllcenter     ") g.yll refl refl in
-      let cols = size_digits g.terrain.cols h.terrain.few_cols in
-      let rows = size_digits g.terrain.rows h.terrain.few_rows in
+      let cols = size_digits h.terrain.few_cols in
+      let rows = size_digits h.terrain.few_rows in
       simp length-append (omega (arith, simp length-append at xll, simp length-append at yll))
 
   cells_short : IsLawful g → length g.nodata ≤ 30 →
@@ -72,7 +72,7 @@ module _ (g : Raster) where
       let some : 0 < g.terrain.cols = omega (arith, h.terrain.some_col) in
       let header = header_short h in
       let rows =
-      rows_short (cell_text (height_text g.scale) g.nodata) g.terrain.cols g.terrain.rows g.terrain.cells some
+      rows_short (cell_text (height_text g.scale) g.nodata) g.terrain.rows g.terrain.cells some
       (h.terrain.size ∙ mul_comm g.terrain.cols g.terrain.rows) (cells_short h nodata) in
       let few : g.terrain.cols * g.terrain.rows ≤ 4096 * 4096 = mul-le-mul h.terrain.few_cols h.terrain.few_rows in
       sum (header_text g g.nodata)

@@ -34,10 +34,10 @@ returns-then-count-eq0 g c =
       c.pieces.invariant.room,
       length-take c.min-room.result c.pieces.buffer,
     ) in
-    pieces_ended g.R.Read.remaining _ _ _ _ _ _ (piece_fed g.R.Read.remaining _ _ _ _ _ _ c.pieces.invariant
-    c.feed.new.self c.read.new.buffer c.in-Ok.count within read.bytes.0 read.moved read.count.ok
-    c.in_default-feed.ensures) (read.bytes.1 c.if-count-eq0.true some) c.finish_grid.ensures.grid
-    c.finish_grid.ensures.fault c.finish_grid.ensures.sound
+    pieces_ended _ (piece_fed g.R.Read.remaining _ _ _ _ _ _ c.pieces.invariant c.feed.new.self c.read.new.buffer
+    c.in-Ok.count within read.bytes.0 read.moved read.count.ok c.in_default-feed.ensures)
+    (read.bytes.1 c.if-count-eq0.true some) c.finish_grid.ensures.grid c.finish_grid.ensures.fault
+    c.finish_grid.ensures.sound
 
 pub pieces-preserved : goal.pieces-preserved
 pieces-preserved g c =

@@ -45,7 +45,7 @@ pub returns-in-AtHeights-clause-word : goal.returns-in-AtHeights-clause-word
 returns-in-AtHeights-clause-word c = λ ws h.
     let there = at_heights _ ws h c.in-AtHeights.is in
     let kept = c.add_height.ensures.kept in
-    height_word _ _ ws h.pairs h.rest _ _ h.header h.words (HasBegun-more h.rest _ there.0) there.1 (omega arith)
+    height_word _ _ ws _ _ h.header h.words (HasBegun-more h.rest _ there.0) there.1 (omega arith)
     (ap (λ (j : GridBuilder). j.header) kept) (ap (λ (j : GridBuilder). j.expected) kept ∙ c.in-AtHeights.is)
     (c.add_height.ensures.word h.pairs h.rest there.1)
 
@@ -55,10 +55,10 @@ returns-in_ok-begin_heights-in-AtKey-clause-word c = λ ws h.
     let begun = c.in_ok-begin_heights-in-AtKey.ensures.none h.pairs h.header in
     let began = c.in_ok-begin_heights-in-AtKey.ensures.kept in
     let kept = c.add_height-in-AtKey.ensures.kept in
-    let header = same_header _ _ h.pairs (ap (λ (j : GridBuilder). j.header) began) h.header in
+    let header = same_header (ap (λ (j : GridBuilder). j.header) began) h.header in
     let words = at_key _ ws h c.in-AtKey.is ∙ sym (append-nil (flat h.pairs)) in
     let more =
-    height_word _ _ ws h.pairs [] c.args.word.now _ header words letter begun (omega arith)
+    height_word _ _ ws c.args.word.now _ header words letter begun (omega arith)
     (ap (λ (j : GridBuilder). j.header) kept)
     (ap (λ (j : GridBuilder). j.expected) kept ∙ c.in_ok-begin_heights-in-AtKey.ensures.expected)
     (c.add_height-in-AtKey.ensures.word h.pairs [] begun) in

@@ -11,7 +11,7 @@ use Rattle.ascii_grid.proofs.Exits.{err_is}
 use Rattle.ascii_grid.proofs.builder.GridBuilder.begin_heights.Goals as goal
 
 pub returns-in_err-self-clause-none : goal.returns-in_err-self-clause-none
-returns-in_err-self-clause-none c = λ ps k. rw (err_is c.from_residual.ensures.1) (reported _ _ _
+returns-in_err-self-clause-none c = λ ps k. rw (err_is c.from_residual.ensures.1) (reported _ _
     (not_memory_missing (flat ps))
     (sym (missing_of-slots_of ps) ∙ ap missing_of (sym k.slots) ∙ c.in_err-self.ensures.err))
 

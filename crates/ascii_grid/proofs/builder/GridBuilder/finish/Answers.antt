@@ -21,18 +21,18 @@ returns-in_err-begin_heights-in-AtKey c = λ ws h. rw (err_is c.from_residual.en
 
 pub returns-in_ok-begin_heights-in-AtKey : goal.returns-in_ok-begin_heights-in-AtKey
 returns-in_ok-begin_heights-in-AtKey c =
-    λ ws h. end-none _ _ ws h c.in-AtKey.is (c.in_ok-begin_heights-in-AtKey.ensures.none h.pairs h.header)
+    λ ws h. end-none ws h c.in-AtKey.is (c.in_ok-begin_heights-in-AtKey.ensures.none h.pairs h.header)
 
 pub returns-then-place-self : goal.returns-then-place-self
 returns-then-place-self c = λ ws h.
     let at : c.len-place.result ≡ length c.args.self.cells.items = omega (arith, c.args.self.cells.ok.0) in
-    end-heights _ ws h c.in-AtHeights.is ∙
+    end-heights h c.in-AtHeights.is ∙
     cond-true _ _ _ (lt-ltb (length c.args.self.cells.items) c.args.self.wanted (omega (arith, at))) ∙
     ap (λ n. Some (TooFew n)) (sym at)
 
 pub returns-else-place-self : goal.returns-else-place-self
 returns-else-place-self c = λ ws h. (
-  end-heights _ ws h c.in-AtHeights.is ∙
+  end-heights h c.in-AtHeights.is ∙
       cond-false _ _ _ (le-ltb _ c.args.self.wanted (omega (arith, c.args.self.cells.ok.0))),
   c.into_grid.ensures ∙ spelled-grid _ ws h c.in-AtHeights.is,
 )

@@ -4,7 +4,7 @@ use Rattle.ascii_grid.proofs.reader.GridReader.feed.Goals as goal
 
 pub returns-in-Some : goal.returns-in-Some
 returns-in-Some c =
-    Feeds-taken _ _ _ _ (search rules) (λ text h. rw (← c.self.view_is)
+    Feeds-taken (search rules) (λ text h. rw (← c.self.view_is)
     (answered_more _ text c.args.piece.now c.in-Some.fault c.in-Some.is (rw (← c.self.view_is) at h))) (search rules)
     (search rules)
 
@@ -20,7 +20,7 @@ invariant_of-self c =
 
 pub returns-in-Err : goal.returns-in-Err
 returns-in-Err c =
-    Feeds-taken _ _ _ _ (search rules) (λ text h. rw c.in-Err.ensures.scale
+    Feeds-taken (search rules) (λ text h. rw c.in-Err.ensures.scale
     (c.in-Err.ensures.read text (as_reading _ text c.in_default.is (rw (← c.self.view_is) at h)))) (search rules)
     (search rules)
 
@@ -36,6 +36,6 @@ invariant_of-self-in_default-read_piece c =
 
 pub returns : goal.returns
 returns c =
-    Feeds-taken _ _ _ _ (search rules) (λ text h. rw c.in_default.is
+    Feeds-taken (search rules) (λ text h. rw c.in_default.is
     (c.in_default-read_piece.ensures.read text (as_reading _ text c.in_default.is (rw (← c.self.view_is) at h))))
     (search rules) (search rules)

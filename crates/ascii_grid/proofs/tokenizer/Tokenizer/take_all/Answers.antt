@@ -9,7 +9,7 @@ pub returns-in_err-take-clause-words : goal.returns-in_err-take-clause-words
 returns-in_err-take-clause-words c = λ text h.
     let first = c.take_heights-at.ensures in
     let before = c.loop-at.invariant in
-    rw (err_is c.from_residual.ensures.1) (fault_at _ _ text c.args.bytes.now _ _ _ (before.scale ∙ first.scale)
+    rw (err_is c.from_residual.ensures.1) (fault_at text c.args.bytes.now _ _ _ (before.scale ∙ first.scale)
     c.loop-at-test.true refl
     (c.in_err-take.ensures.words _ (taken_words _ _ _ text c.args.bytes.now _ _ first before h)))
 
