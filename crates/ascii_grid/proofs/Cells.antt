@@ -1,8 +1,6 @@
 -- A word with a scaled value is NODATA exactly if the NODATA word has that value too. If the value
 -- is another height, the word means a cell of that height.
 use Rattle.std.proofs.Common.{◌≡◌, ℕ, Bool, Option, true, false, cond, Some, ℤ, refl, ap, sym, ◌∙◌, inl, inr}
-use Rattle.std.specs.Str.{bytes_eq}
-use Rattle.std.specs.Ordering.{int_eq}
 use Rattle.std.proofs.lemmas.Bool.{cases_Bool}
 use Rattle.std.proofs.lemmas.Bool.Decides.{Decides-int_eq}
 use Rattle.std.proofs.lemmas.Slice.Eq.{bytes_eq-Decides}

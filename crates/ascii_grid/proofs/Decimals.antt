@@ -1,7 +1,7 @@
 -- The next digit before the last k digits of a number makes its last k + 1 digits. The digits of a
 -- number below 2^64 spell it, also as `decimal (n / 10 ^ d)` and then the last d digits. They are
 -- more than k if the number is at least 10^k.
-use Rattle.std.proofs.Common.{◌≡◌, ℕ, zero, suc, ◌+◌, ◌*◌, ◌/◌, ◌%◌, ◌^◌, ◌<◌, ◌≤◌, ◌-◌, List, [], ◌∷◌, ◌++◌, length, drop, set, sym, ap, refl, ◌∙◌, arith, add-one, true, leb}
+use Rattle.std.proofs.Common.{◌≡◌, ℕ, zero, suc, ◌+◌, ◌*◌, ◌/◌, ◌%◌, ◌^◌, ◌<◌, ◌≤◌, ◌-◌, List, [], ◌∷◌, ◌++◌, length, drop, set, sym, ap, refl, ◌∙◌, arith, add-one, true}
 use Rattle.std.specs.Prelude.{decimal}
 use Rattle.std.proofs.Math.Nat.{div-div-eq-div-mul, pow-succ', div-one, pow-le-pow_right}
 use Rattle.std.proofs.lemmas.Fmt.{decimal_by_steps, decimal_nonempty}

@@ -1,6 +1,6 @@
 -- A grid is read from a device in pieces. Before each piece (`HasFedSoFar`), the reader was fed all
 -- bytes read so far. The result for all pieces together is that of reading the grid (`ReadsGrid`).
-use Rattle.std.proofs.Common.{arith, ◌≡◌, ◌≢◌, ◌≤◌, ◌+◌, ◌++◌, ℕ, List, Option, None, Some, Ok, Err, Result, length, take, refl, sym, ap, subst, ◌∙◌, inl, inr}
+use Rattle.std.proofs.Common.{arith, ◌≡◌, ◌≢◌, ◌≤◌, ◌+◌, ◌++◌, ℕ, List, Option, None, Some, Ok, Err, Result, length, take, refl, sym, subst, ◌∙◌, inl, inr}
 use Rattle.std.specs.Prelude.{IfOk}
 use Rattle.std.specs.Io.KnownBytes.{Consumes, IsAtEnd, Keeps}
 use Rattle.std.proofs.lemmas.Bool.{cases_lt}
@@ -8,9 +8,8 @@ use Rattle.std.proofs.lemmas.List.{append-nil, length-append, length-take-le}
 use Rattle.std.proofs.lemmas.Option.{same_Some}
 use Rattle.std.proofs.lemmas.Result.{IfOk-weaker}
 use Rattle.terrain.specs.Raster.{Raster}
-use Rattle.terrain.specs.Words.{ended_words}
 use Rattle.ascii_grid.specs.Device.{Device, HasRead, Moves}
-use Rattle.ascii_grid.specs.GridText.{IsGridText, IsRefusal, fault_so_far, most_bytes, words_fault}
+use Rattle.ascii_grid.specs.GridText.{IsGridText, IsRefusal, fault_so_far, most_bytes}
 use Rattle.ascii_grid.specs.Input.{ReadsGrid}
 use Rattle.ascii_grid.specs.Reader.{Reader, WasFed, Feeds}
 use Rattle.ascii_grid.specs.declared.fault.GridFault.{GridFault}

@@ -1,10 +1,10 @@
 -- A lawful grid's text of at most 2^29 bytes reads back as that grid without its sinks.
-use Rattle.std.proofs.Common.{◌≡◌, Bool, true, false, cond, List, [], ◌∷◌, Option, None, Some, ap, refl, ◌∙◌, ℕ, ◌*◌, ◌^◌, ◌<◌, ◌≤◌, ◌&&◌, leb, ltb, ◌++◌, length, map, get_or, ℤ, sym, arith, zero-add}
+use Rattle.std.proofs.Common.{◌≡◌, Bool, true, false, cond, List, [], ◌∷◌, Option, None, Some, ap, refl, ◌∙◌, ℕ, ◌*◌, ◌^◌, ◌<◌, ◌≤◌, ltb, ◌++◌, length, map, get_or, ℤ, sym, arith, zero-add}
 use Rattle.std.specs.Prelude.{codes, decimal}
 use Rattle.std.specs.Option.{option_or}
 use Rattle.std.proofs.lemmas.Bool.{and_from, le-leb, le-ltb}
 use Rattle.terrain.specs.Words.{Word, words}
-use Rattle.terrain.specs.Decimal.{number_of, are_digits, is_decimal, is_above_zero, is_size}
+use Rattle.terrain.specs.Decimal.{number_of, is_decimal, is_above_zero, is_size}
 use Rattle.terrain.specs.Raster.{Raster, IsLawful, IsHeaderWord}
 use Rattle.ascii_grid.specs.Header.{header_words, height_words, size_for, anchor_for, word_for, nodata_for, is_long, is_value, bad_value, header_fault, missing_fault, no_value_fault}
 use Rattle.ascii_grid.specs.declared.fault.Key.{Key}

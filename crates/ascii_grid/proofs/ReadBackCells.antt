@@ -1,17 +1,16 @@
 -- The text of a height reads back as that height, and the text of a cell as that cell.
-use Rattle.std.proofs.Common.{◌≡◌, ◌≢◌, ℕ, ◌+◌, ◌^◌, ◌≤◌, true, false, List, [], ◌∷◌, length, map, Option, None, Some, ℤ, pos, negsuc, sym, ap, refl, ◌∙◌, arith, zero, suc, ◌-◌, ◌*◌, ◌/◌, ◌<◌, ltb, cond, ◌++◌, take, drop, replicate, inl, inr}
+use Rattle.std.proofs.Common.{◌≡◌, ◌≢◌, ℕ, ◌+◌, ◌^◌, ◌≤◌, true, false, List, [], ◌∷◌, length, map, Option, None, Some, ℤ, pos, negsuc, sym, ap, refl, ◌∙◌, arith, zero, suc, ◌-◌, ◌/◌, ◌<◌, ltb, cond, ◌++◌, take, drop, replicate, inl, inr}
 use Rattle.std.specs.Prelude.{unsigned_abs, IfSome, int_le, decimal, neg_ℤ}
 use Rattle.std.specs.List.{All, list_any, before_first, after_first}
 use Rattle.std.specs.Option.{option_map_or, option_or}
 use Rattle.std.specs.Str.{bytes_eq}
-use Rattle.std.specs.Ordering.{int_eq}
 use Rattle.std.proofs.lemmas.Bool.{cond-true, cond-false, and_from, or_left, or_right, or_from, false_from_ne_true, ltb-false, cases_Bool, and_parts, le-leb, le-ltb}
 use Rattle.std.proofs.lemmas.Bool.Decides.{Decides-int_eq}
 use Rattle.std.proofs.lemmas.Slice.Eq.{bytes_eq-Decides}
 use Rattle.std.proofs.lemmas.List.Elements.{All-head, All-tail}
 use Rattle.terrain.specs.Words.{Word}
 use Rattle.terrain.specs.Decimal.{scaled_value, without_sign, is_negative, is_point, is_exponent_mark, has_exponent, is_decimal, has_scaled_value}
-use Rattle.terrain.specs.Raster.{lowest, highest, IsHeight, is_height, IsHeaderWord}
+use Rattle.terrain.specs.Raster.{highest, IsHeight, is_height, IsHeaderWord}
 use Rattle.ascii_grid.specs.Header.{begins_with_letter, is_long, nodata_for, missing_fault}
 use Rattle.ascii_grid.specs.GridText.{same_value, is_nodata, spelled_cell, is_cell, cells_wanted, heights_fault}
 use Rattle.ascii_grid.specs.Text.{height_text, cell_text, last_digits, decimals_text}
@@ -22,7 +21,7 @@ use Rattle.ascii_grid.proofs.ReadBackDecimals.{decimal_clean, decimal_begins, be
 use Rattle.std.proofs.lemmas.List.{append-nil, length-append, take_at, drop_all}
 use Rattle.std.proofs.lemmas.List.Folds.{list_any-append}
 use Rattle.std.proofs.lemmas.Nat.{pow-add}
-use Rattle.std.proofs.Math.Nat.{div-le_self, div-lt_iff_lt-mul, one-le-pow}
+use Rattle.std.proofs.Math.Nat.{div-lt_iff_lt-mul, one-le-pow}
 use Rattle.std.proofs.lemmas.Fmt.{decimal_nonempty, length-decimal-le}
 use Rattle.decimals.proofs.Scaled.{are_digits_joined, before_first-none, scaled_value-digits, any-digits, no_exponent, no_point, after_first-none, bare_digits}
 use Rattle.ascii_grid.proofs.Decimals.{decimal_digits, last_digits_digits, length-last_digits, scaled_digits}

@@ -1,8 +1,8 @@
 -- A row's text is the texts of its cells, a space after each but the last, and a line feed. The
 -- text of n + 1 rows is the text of the first n rows and then that of the last.
-use Rattle.std.proofs.Common.{◌≡◌, ℕ, zero, suc, ◌+◌, ◌-◌, ◌*◌, ◌/◌, ◌<◌, ◌≤◌, List, [], ◌∷◌, ◌++◌, length, take, drop, map, get_or, sym, ap, refl, ◌∙◌, arith, zero-add, zero-mul}
+use Rattle.std.proofs.Common.{◌≡◌, ℕ, zero, suc, ◌+◌, ◌-◌, ◌*◌, ◌/◌, ◌<◌, ◌≤◌, List, [], ◌∷◌, ◌++◌, length, take, drop, get_or, sym, ap, refl, ◌∙◌, arith, zero-add, zero-mul}
 use Rattle.std.proofs.Math.Nat.{mul-div_cancel_left}
-use Rattle.std.specs.List.{join_with_byte, flat_map}
+use Rattle.std.specs.List.{flat_map}
 use Rattle.std.proofs.lemmas.List.{append_assoc, append-nil, take_more, drop_more, drop_all, drop-drop, drop-take, take-append-drop, take-take}
 use Rattle.std.proofs.lemmas.Grind.{flat_map-append}
 use Rattle.ascii_grid.specs.Text.{row_text, rows_text}

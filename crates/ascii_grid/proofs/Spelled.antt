@@ -2,28 +2,26 @@
 -- without a fault spells a lawful grid: one with all its parts within limits, no height equal to
 -- NODATA.
 -- Among the heights, the builder's slots and cells make the grid that its words spell.
-use Rattle.std.proofs.Common.{◌≡◌, ◌≢◌, ℕ, ◌+◌, ◌<◌, ◌≤◌, Bool, true, false, not, cond, nat_lt, nat_le, List, [], ◌∷◌, ◌++◌, length, map, Option, None, Some, ℤ, arith, lit≤, refl, ap, sym, ◌∙◌, subst, inl, inr}
+use Rattle.std.proofs.Common.{◌≡◌, ◌≢◌, ℕ, ◌+◌, ◌<◌, ◌≤◌, Bool, true, false, not, cond, nat_lt, List, [], ◌∷◌, ◌++◌, length, map, Option, None, Some, ℤ, arith, lit≤, refl, ap, sym, ◌∙◌, subst, inl, inr}
 use Rattle.std.specs.Prelude.{is_some, All, IfSome, unwrap_or, option_map, int_le, codes}
 use Rattle.std.specs.Option.{option_map_or}
-use Rattle.std.specs.Str.{bytes_eq}
 use Rattle.std.specs.Ordering.{int_eq}
 use Rattle.std.proofs.lemmas.Bool.Decides.{Decides-int_eq}
 use Rattle.std.proofs.lemmas.Bool.{cases_Bool, cond-false, and_parts, or_parts, lt-ltb, le-ltb, ltb-true, ltb-false, leb-true}
-use Rattle.std.proofs.lemmas.Int.{ints}
 use Rattle.std.proofs.lemmas.List.{length-map}
 use Rattle.std.proofs.lemmas.List.Elements.{All-cons}
 use Rattle.std.proofs.Math.Nat.{one-le-mul}
 use Rattle.terrain.specs.Words.{Word}
 use Rattle.terrain.specs.Decimal.{number_of, scaled_value, is_decimal, is_above_zero, is_size}
 use Rattle.terrain.specs.Raster.{lowest, highest, IsHeight, is_height, IsHeaderWord, IsLawful}
-use Rattle.ascii_grid.specs.Header.{fills, header_words, height_words, pairs, key_left, pair_for, value_for, word_for, nodata_for, is_long, is_value, bad_value, key_fault, value_fault, header_fault, missing_fault, no_value_fault}
+use Rattle.ascii_grid.specs.Header.{fills, header_words, height_words, pairs, key_left, value_for, word_for, nodata_for, is_value, value_fault, header_fault, missing_fault, no_value_fault}
 use Rattle.ascii_grid.specs.GridText.{same_value, is_nodata, is_cell, spelled_cell, cells_wanted, height_fault, heights_fault, words_fault, end_fault, grid_of}
 use Rattle.ascii_grid.specs.Slots.{anchor_at, is_given, is_centre, IsWhole, raster_of}
-use Rattle.ascii_grid.specs.Reading.{flat, given, slots_of, HasReadHeights, HasAdded, IsHeaderFault, IsEndFault}
+use Rattle.ascii_grid.specs.Reading.{flat, slots_of, HasReadHeights, HasAdded, IsHeaderFault, IsEndFault}
 use Rattle.ascii_grid.specs.declared.fault.Key.{Key}
 use Rattle.ascii_grid.specs.declared.fault.Key.TheVariants.{Ncols, Nrows, Xll, Yll, Cellsize, Nodata}
 use Rattle.ascii_grid.specs.declared.fault.GridFault.{GridFault}
-use Rattle.ascii_grid.specs.declared.fault.GridFault.TheVariants.{MissingKey, BadHeight, TooFew, TooMany, TooLong, NoValue}
+use Rattle.ascii_grid.specs.declared.fault.GridFault.TheVariants.{MissingKey, TooFew, TooMany, TooLong, NoValue}
 use Rattle.terrain.specs.declared.grid.Anchor.{Anchor}
 use Rattle.ascii_grid.specs.declared.builder.GridBuilder.{GridBuilder}
 use Rattle.ascii_grid.specs.declared.builder.Expected.TheVariants.{AtKey, AtValue, AtHeights}

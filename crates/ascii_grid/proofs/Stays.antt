@@ -6,9 +6,9 @@ use Rattle.std.specs.Option.{option_or}
 use Rattle.std.specs.List.{list_any}
 use Rattle.std.proofs.lemmas.Bool.{cases_Bool}
 use Rattle.std.proofs.lemmas.List.{append-nil, append_assoc, length-append, take-append-le}
-use Rattle.terrain.specs.Words.{Word, is_word, is_separator, words, ended_words}
+use Rattle.terrain.specs.Words.{Word, is_word, words, ended_words}
 use Rattle.ascii_grid.specs.Header.{begins_with_letter, is_long, header_words, height_words, header_fault, key_fault, value_fault, key_left, missing_fault}
-use Rattle.ascii_grid.specs.GridText.{words_fault, heights_fault, height_fault, AsksAtHeight}
+use Rattle.ascii_grid.specs.GridText.{words_fault, heights_fault, AsksAtHeight}
 use Rattle.ascii_grid.specs.Reading.{IsParted}
 use Rattle.ascii_grid.specs.declared.fault.GridFault.{GridFault}
 use Rattle.ascii_grid.proofs.Judging.{option_or-assoc}

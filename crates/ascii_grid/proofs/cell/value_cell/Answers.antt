@@ -1,11 +1,10 @@
-use Rattle.std.proofs.Common.{arith, ◌≡◌, ap, sym, ◌∙◌, Some, false, true, refl}
+use Rattle.std.proofs.Common.{arith, ap, sym, ◌∙◌, Some}
 use Rattle.std.specs.Prelude.{int_le}
 use Rattle.std.proofs.lemmas.Int.{ints, to_z-of_z}
-use mir.Val.{to_z, of_z}
+use mir.Val.{to_z}
 use Rattle.terrain.specs.Raster.{lowest, highest}
 use Rattle.terrain.proofs.Heights.{height_width}
 use Rattle.ascii_grid.specs.GridText.{same_value}
-use Rattle.terrain.specs.Decimal.{scaled_value}
 use Rattle.ascii_grid.specs.declared.cell.Meaning.TheVariants.{Cell}
 use Rattle.ascii_grid.proofs.Cells.{meaning_of_height}
 use Rattle.ascii_grid.proofs.cell.value_cell.Goals as goal

@@ -1,4 +1,4 @@
-use Rattle.std.proofs.Common.{arith, rules, ◌≡◌, ◌+◌, ◌-◌, ◌/◌, ◌<◌, length, ap, ◌∙◌}
+use Rattle.std.proofs.Common.{arith, rules, ◌≡◌, ◌+◌, ◌-◌, ◌<◌, length}
 use Rattle.std.proofs.lemmas.List.{drop_all}
 use Rattle.ascii_grid.proofs.Decimals.{div_pow_last, digit_before}
 use Rattle.ascii_grid.proofs.cell_text.write_last_digits.Goals as goal

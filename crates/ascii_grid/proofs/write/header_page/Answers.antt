@@ -1,4 +1,3 @@
-use Rattle.std.proofs.Common.{refl}
 use Rattle.ascii_grid.proofs.write.header_page.Goals as goal
 
 pub returns : goal.returns

@@ -1,4 +1,3 @@
-use Rattle.std.proofs.Common.{length}
 use Rattle.ascii_grid.proofs.RowText.{whole_rows}
 use Rattle.ascii_grid.proofs.write.write_cells.Goals as goal
 

@@ -2,7 +2,6 @@ use Rattle.std.proofs.Common.{◌++◌, ◌∷◌, [], ap, sym, ◌∙◌, refl,
 use Rattle.std.proofs.lemmas.List.{append-nil}
 use Rattle.ascii_grid.specs.Reading.{flat}
 use Rattle.ascii_grid.specs.declared.builder.GridBuilder.{GridBuilder}
-use Rattle.ascii_grid.specs.declared.builder.Expected.TheVariants.{AtValue}
 use Rattle.ascii_grid.proofs.Judging.{HasBegun-more}
 use Rattle.ascii_grid.proofs.AddedWords.{is_memory, not_memory_slot, not_memory_bad_value, word_fault, judged-key, fault-key, judged-value, fault-value, height_word, no_first_height, at_key, at_heights, same_header}
 use Rattle.ascii_grid.proofs.Exits.{err_is}

@@ -2,8 +2,6 @@ use Rattle.std.proofs.Common.{ap, refl, sym, ◌∙◌, unwrap_or}
 use Rattle.std.specs.Prelude.{codes}
 use Rattle.terrain.specs.Decimal.{scaled_value}
 use Rattle.ascii_grid.specs.Slots.{missing_of, wanted_of}
-use Rattle.ascii_grid.specs.declared.header.Header.{Header}
-use Rattle.ascii_grid.specs.Header.{missing_fault}
 use Rattle.ascii_grid.specs.Reading.{flat}
 use Rattle.ascii_grid.proofs.AddedWords.{reported, not_memory_missing}
 use Rattle.ascii_grid.proofs.Judging.{missing_of-slots_of, wanted_of-slots_of, pairs-flat}
