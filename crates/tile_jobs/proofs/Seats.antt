@@ -1,7 +1,6 @@
 -- New seats are a deal (`IsDeal`): each has an end (handle) of each deque. After a seat takes a
 -- job, the seats still are a deal, and each end lists the jobs that its seat took there (`IsSeat`).
 use Rattle.std.proofs.Common.{◌≡◌, ◌≢◌, ℕ, zero, suc, ◌-◌, ◌%◌, ◌<◌, ◌≤◌, inl, inr, Bool, true, false, true≢false, cond, ◌==◌, List, All, [], ◌∷◌, ◌++◌, length, get_or, set, sym, refl, ap, ◌∙◌, arith}
-use Rattle.std.proofs.lemmas.Bool.Decides.{nat_tests}
 use Rattle.std.proofs.lemmas.Bool.{cases_eq, cases_lt, eq-eqb, ne_eqb, lt-ltb, le-ltb}
 use Rattle.std.proofs.lemmas.List.{get_or-set_same, get_or-set_other}
 use lib.ListN.{length-append}

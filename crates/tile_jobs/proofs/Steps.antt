@@ -1,6 +1,6 @@
 -- Each push, take, split and join on a deque keeps `Lawful`: the deque holds the entries pushed and
 -- not taken. The views of its passes (rights to act on it) record the entries taken.
-use Rattle.std.proofs.Common.{◌≡◌, ◌≢◌, ℕ, zero, suc, ◌+◌, ◌-◌, ◌<◌, ◌≤◌, inl, inr, ⊎_elim, true, true≢false, List, [], ◌∷◌, ◌++◌, length, take, drop, set, All, sym, refl, ap, ◌∙◌, subst, arith}
+use Rattle.std.proofs.Common.{◌≡◌, ◌≢◌, ℕ, zero, suc, ◌+◌, ◌-◌, ◌<◌, ◌≤◌, inl, inr, true, true≢false, List, [], ◌∷◌, ◌++◌, length, take, drop, set, All, sym, refl, ap, ◌∙◌, subst, arith}
 use Rattle.std.specs.List.{concat}
 use Rattle.std.proofs.lemmas.List.{append_assoc, take_all}
 use Rattle.std.proofs.lemmas.List.Elements.{All-cons, All-head, All-tail, All-append}

@@ -1,6 +1,5 @@
 -- A worker has a result of each job that its seat took.
 use Rattle.std.proofs.Common.{◌≡◌, ℕ, ◌+◌, ◌<◌, Result, Ok, Err, sym, subst, ◌==◌, cond, Bool, true, false, List, [], ◌∷◌, ◌++◌, get_or, refl, ◌∙◌, arith}
-use Rattle.std.proofs.lemmas.Bool.Decides.{nat_tests}
 use Rattle.tile_jobs.specs.declared.slots.JobResult.{JobResult}
 use Rattle.tile_jobs.specs.Results.{HasResult}
 use Rattle.tile_jobs.proofs.Results.{answered_more, answered_last}

@@ -1,4 +1,4 @@
-use Rattle.std.proofs.Common.{rules, arith, sym, ap, ◌≡◌, ◌≢◌, ℕ, ◌<◌, ◌≤◌, ◌==◌, cond, length, drop, get_or, ◌∙◌, true, vec_len, set, below_more, eq-eqb}
+use Rattle.std.proofs.Common.{rules, arith, sym, ap, ◌≡◌, ◌≢◌, ◌<◌, ◌≤◌, ◌==◌, cond, length, drop, get_or, ◌∙◌, vec_len, below_more, eq-eqb}
 use Rattle.std.proofs.lemmas.Grind.{common_steps}
 use Rattle.tile_jobs.specs.Board.{times}
 use Rattle.tile_jobs.specs.Sums.{sum_below}

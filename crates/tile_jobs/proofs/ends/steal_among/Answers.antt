@@ -1,5 +1,4 @@
 use Rattle.std.proofs.Common.{arith, ◌∙◌, sym, ◌≡◌, ◌<◌, length}
-use Rattle.std.proofs.lemmas.Grind.{common_steps}
 use Rattle.tile_jobs.proofs.Seats.{took_among}
 use Rattle.std.proofs.lemmas.List.{get_or_default}
 use Rattle.tile_jobs.proofs.ends.steal_among.Goals as goal

@@ -1,4 +1,4 @@
-use Rattle.std.proofs.Common.{rules, arith, ap, List, subst, ◌≡◌, suc, [], ◌∷◌, ◌++◌, length, drop, get_or, ◌∙◌, vec_len}
+use Rattle.std.proofs.Common.{rules, arith, ap, subst, ◌≡◌, suc, [], ◌∷◌, ◌++◌, length, drop, get_or, ◌∙◌, vec_len}
 use Rattle.std.proofs.lemmas.Grind.{common_steps}
 use Rattle.std.specs.Vec.Iter.{into_iter_items}
 use Rattle.tile_jobs.specs.Ends.{SeatState}

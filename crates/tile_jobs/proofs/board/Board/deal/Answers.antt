@@ -1,6 +1,6 @@
-use Rattle.std.proofs.Common.{arith, sym, subst, ◌≡◌, length, List, vec_len}
+use Rattle.std.proofs.Common.{arith, sym, subst, ◌≡◌, length, vec_len}
 use Rattle.std.proofs.lemmas.Grind.{common_steps}
-use Rattle.tile_jobs.specs.Ends.{SeatState, IsNew}
+use Rattle.tile_jobs.specs.Ends.{IsNew}
 use Rattle.tile_jobs.proofs.Seats.{deal_ends, new_seat}
 use Rattle.tile_jobs.proofs.board.Board.deal.Goals as goal
 

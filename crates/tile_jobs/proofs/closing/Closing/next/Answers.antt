@@ -1,8 +1,6 @@
-use Rattle.std.proofs.Common.{arith, refl, ◌≡◌, ◌+◌, ◌-◌, ◌<◌, suc, [], ◌∷◌, length}
+use Rattle.std.proofs.Common.{arith, refl, ◌≡◌, ◌+◌, ◌-◌, suc, length}
 use Rattle.crossbeam_deque.specs.Handles.{worker_view}
-use Rattle.tile_jobs.specs.declared.deque.DequeEntry.TheVariants.{Job, End}
-use Rattle.tile_jobs.specs.declared.deque.Log.{Log}
-use Rattle.tile_jobs.specs.Rule.{TookNext, taken, all_taken}
+use Rattle.tile_jobs.specs.Rule.{taken, all_taken}
 use Rattle.tile_jobs.proofs.Closings.{feed_job_at, feed_end_at}
 use Rattle.tile_jobs.proofs.closing.Closing.next.Goals as goal
 

@@ -1,6 +1,6 @@
-use Rattle.std.proofs.Common.{rules, arith, ◌≡◌, ◌<◌, length, vec_len, List, inr}
+use Rattle.std.proofs.Common.{rules, arith, ◌≡◌, length, vec_len, List, inr}
 use Rattle.std.proofs.lemmas.Grind.{common_steps}
-use Rattle.tile_jobs.specs.Ends.{EndState, TookAmong}
+use Rattle.tile_jobs.specs.Ends.{EndState}
 use Rattle.tile_jobs.proofs.Seats.{kept_own, own_took, own_room, others_took, others_rise, others_room}
 use Rattle.tile_jobs.proofs.seat.Seat.try_take.Goals as goal
 
