@@ -23,9 +23,9 @@ use Rattle.request.specs.PlaceWords.{observer_of, place_of_word}
 use Rattle.request.specs.Request.{IsSightMap}
 use Rattle.request.specs.WordsFaults.{IsBadObserverAfter, IsBadGaugeAfter, IsFaultWith, IsMapsFaultAfter}
 use Rattle.request.specs.declared.words.WordsFault.{WordsFault}
-use Rattle.request.specs.declared.words.WordsFault.TheVariants.{Clap, BadObserver, BadGauge, BadSink, BadMaps, NoMap}
+use Rattle.request.specs.declared.words.WordsFault.TheVariants.{BadObserver, BadGauge, BadMaps, NoMap}
 use Rattle.request.specs.declared.map.Map.{Map}
-use Rattle.request.specs.declared.map.Map.TheVariants.{Fill, Flow, Accumulate, Basins, Catchments, View, Rise, Several}
+use Rattle.request.specs.declared.map.Map.TheVariants.{Accumulate, Basins, Catchments, View, Rise, Several}
 use Rattle.request.specs.declared.map_words.MapsFault.{MapsFault}
 
 pub same_number : (rows : List Row) (id : Text) (m n : ℕ) → HasNumber rows id m → HasNumber rows id n → m ≡ n

@@ -1,6 +1,6 @@
 -- The subcommand that `clap` finds, with its values, decides what a command line requests, or which
 -- fault the command line has.
-use Rattle.std.proofs.Common.{◌≡◌, ℕ, List, [], ◌∷◌, length, map, eqb, Option, Some, None, true, false, codes, sym, ap, ap₂, subst, refl, inl, ◌∙◌, Bor, Box}
+use Rattle.std.proofs.Common.{◌≡◌, ℕ, List, [], length, map, eqb, Option, Some, None, true, false, codes, sym, ap, ap₂, subst, refl, inl, ◌∙◌, Bor, Box}
 use Rattle.std.specs.Prelude.{option_map}
 use Rattle.std.specs.Box.{box_value}
 use Rattle.std.proofs.lemmas.Option.{none-some, same_Some}
