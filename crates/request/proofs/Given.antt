@@ -38,11 +38,10 @@ pub given_words : (f : Found) (id : Text) (o : Option (Bor (List (Bor Text)))) (
     option_map (λ s. map (λ w. w.now) s.now) o ≡ option_map raw_values (matched_of f id) →
     map (λ w. w.now) words.now ≡ words_of id (rows_of f)
 given_words f id None none words is empty same =
-    ap (λ (ws : Bor (List (Bor Text))). map (λ w. w.now) ws.now) is ∙ ap (map (λ (w : Bor Text). w.now)) empty ∙
-    ap (λ ws. unwrap_or ws []) (same ∙ raw_values-rows f id)
+    rw is (ap (map (λ (w : Bor Text). w.now)) empty ∙
+    ap (λ ws. unwrap_or ws []) (same ∙ raw_values-rows f id))
 given_words f id s none words is empty same =
-    ap (λ (ws : Bor (List (Bor Text))). map (λ w. w.now) ws.now) is ∙
-    ap (λ ws. unwrap_or ws []) (same ∙ raw_values-rows f id)
+    rw is (ap (λ ws. unwrap_or ws []) (same ∙ raw_values-rows f id))
 
 abbrev Reads : Text → Result ℕ ParseIntError → Type 0
 Reads t r = ParsesUnsigned 32 10 t r × ExplainsUnsignedError 10 t r × HasUnsignedDigitsIfOk t r

@@ -92,7 +92,7 @@ one_request words request other a b =
     )
 
 none_any : (P : ErrorKind → Type 0) (ks : Kinds) → ks ≡ [] → Any P ks → ⊥
-none_any P ks none any = let some = subst (Any P) none any in absurd (omega (arith, some.2))
+none_any P ks none any = let some = rw none at any in absurd (omega (arith, some.2))
 
 pub request_accepted : (words : List Text) (request : Request) →
     RequestFor words request → ¬ AskForHelp words × ¬ AreRefused words
