@@ -8,6 +8,8 @@ pub mod Keys
 pub mod Judging
 pub mod AddedWords
 pub mod Stays
+-- faults that are passed on
+pub mod Exits
 -- a text in pieces, up to its end
 pub mod Ending
 pub mod Spelled

@@ -1,8 +1,8 @@
 -- A row's text is the texts of its cells, a space after each but the last, and a line feed. The
 -- text of n + 1 rows is the text of the first n rows and then that of the last.
-use Rattle.std.proofs.Common.{◌≡◌, ℕ, zero, suc, ◌+◌, ◌-◌, ◌*◌, ◌/◌, ◌<◌, ◌≤◌, List, [], ◌∷◌, ◌++◌, length, take, drop, map, get_or, sym, ap, refl, ◌∙◌, arith, zero-add, zero-mul}
+use Rattle.std.proofs.Common.{◌≡◌, ℕ, zero, suc, ◌+◌, ◌-◌, ◌*◌, ◌/◌, ◌<◌, ◌≤◌, List, [], ◌∷◌, ◌++◌, length, take, drop, get_or, sym, ap, refl, ◌∙◌, arith, zero-add, zero-mul}
 use Rattle.std.proofs.Math.Nat.{mul-div_cancel_left}
-use Rattle.std.specs.List.{join_with_byte, flat_map}
+use Rattle.std.specs.List.{flat_map}
 use Rattle.std.proofs.lemmas.List.{append_assoc, append-nil, take_more, drop_more, drop_all, drop-drop, drop-take, take-append-drop, take-take}
 use Rattle.std.proofs.lemmas.Grind.{flat_map-append}
 use Rattle.ascii_grid.specs.Text.{row_text, rows_text}
@@ -17,82 +17,65 @@ row_split f [] i h = absurd (omega arith)
 row_split f (c ∷ cells) zero h = refl
 row_split f (c ∷ []) (suc i) h = absurd (omega arith)
 row_split f (c ∷ d ∷ cells) (suc i) h =
-    regroup (f c) (join_with_byte 32 (map f (d ∷ cells))) (10 ∷ [])
-    ∙ ap (λ z. (f c ++ 32 ∷ []) ++ z) (row_split f (d ∷ cells) i (omega arith))
-    ∙ sym (append_assoc (f c ++ 32 ∷ []) (spaced f (take i (d ∷ cells)))
-    (row_text f (drop i (d ∷ cells)))) where
+    regroup _ _ _ ∙ ap ((f c ++ 32 ∷ []) ++◌) (row_split f (d ∷ cells) i (omega arith)) ∙
+    sym (append_assoc _ _ (row_text f (drop i (d ∷ cells)))) where
       regroup : (a b c : List ℕ) → (a ++ 32 ∷ b) ++ c ≡ (a ++ 32 ∷ []) ++ (b ++ c)
       regroup a b c = simp append_assoc
 
-pub pieces_more : {X : Type 0} (f : X → List ℕ) (pieces : List X) (x : X) (i : ℕ) →
-    i < length pieces → x ≡ get_or pieces i x →
-    flat_map f (take (i + 1) pieces) ≡ flat_map f (take i pieces) ++ f x
-pieces_more f pieces x i h e = rw (take_more pieces i x h, ← e, flat_map-append, append-nil) refl
+module _ {X : Type 0} (f : X → List ℕ) (pieces : List X) (x : X) (i : ℕ) where
+  pub pieces_more : i < length pieces → x ≡ get_or pieces i x →
+      flat_map f (take (i + 1) pieces) ≡ flat_map f (take i pieces) ++ f x
+  pieces_more h e = rw (take_more pieces i x h, ← e, flat_map-append, append-nil)
 
-pub pieces_split : {X : Type 0} (f : X → List ℕ) (pieces : List X) (x : X) (i : ℕ) →
-    i < length pieces → x ≡ get_or pieces i x →
-    flat_map f pieces ≡ (flat_map f (take i pieces) ++ f x) ++ flat_map f (drop (i + 1) pieces)
-pieces_split {X} f pieces x i h e =
-    ap (λ (z : List X). flat_map f z) (sym (take-append-drop (i + 1) pieces))
-    ∙ flat_map-append f (take (i + 1) pieces) (drop (i + 1) pieces)
-    ∙ ap (λ z. z ++ flat_map f (drop (i + 1) pieces)) (pieces_more f pieces x i h e)
+  pub pieces_split : i < length pieces → x ≡ get_or pieces i x →
+      flat_map f pieces ≡ (flat_map f (take i pieces) ++ f x) ++ flat_map f (drop (i + 1) pieces)
+  pieces_split h e =
+      ap (flat_map f) (sym (take-append-drop _ pieces)) ∙ flat_map-append f _ _ ∙
+      ap (λ z. z ++ flat_map f (drop (i + 1) pieces)) (pieces_more h e)
 
-pub spaced_more : {X : Type 0} (f : X → List ℕ) (cells : List X) (c : X) (i : ℕ) →
-    i < length cells → c ≡ get_or cells i c →
-    spaced f (take (i + 1) cells) ≡ spaced f (take i cells) ++ (f c ++ 32 ∷ [])
-spaced_more f cells c i h e = pieces_more (λ d. f d ++ 32 ∷ []) cells c i h e
+module _ {X : Type 0} (f : X → List ℕ) (cells : List X) (c : X) (i : ℕ) where
+  pub spaced_more : i < length cells → c ≡ get_or cells i c →
+      spaced f (take (i + 1) cells) ≡ spaced f (take i cells) ++ (f c ++ 32 ∷ [])
+  spaced_more h e = pieces_more (λ d. f d ++ 32 ∷ []) cells c i h e
 
--- a row's text is its cells before the last, each with a space, then the last and a line feed
-pub row_last : {X : Type 0} (f : X → List ℕ) (cells : List X) (c : X) (i : ℕ) →
-    i + 1 ≡ length cells → c ≡ get_or cells i c →
-    row_text f cells ≡ spaced f (take i cells) ++ (f c ++ 10 ∷ [])
-row_last {X} f cells c i h e =
-    let last : drop i cells ≡ c ∷ [] = drop_more cells i c (omega (arith, h))
-    ∙ rw (← e, drop_all (i + 1) cells (omega (arith, h))) refl in
-    row_split f cells i (omega (arith, h))
-    ∙ ap (λ (z : List X). spaced f (take i cells) ++ row_text f z) last
+  -- a row's text is its cells before the last, each with a space, then the last and a line feed
+  pub row_last : i + 1 ≡ length cells → c ≡ get_or cells i c →
+      row_text f cells ≡ spaced f (take i cells) ++ (f c ++ 10 ∷ [])
+  row_last h e =
+      let last : drop i cells ≡ c ∷ [] =
+      drop_more cells i c (omega (arith, h)) ∙ rw (← e, drop_all (i + 1) cells (omega (arith, h))) in
+      row_split f cells i (omega (arith, h)) ∙ ap (λ (z : List X). spaced f (take i cells) ++ row_text f z) last
 
-pub rows_text-add : {X : Type 0} (f : X → List ℕ) (cols m n : ℕ) (cells : List X) → rows_text f cols
-    (m + n) cells ≡ rows_text f cols m cells ++ rows_text f cols n (drop (m * cols) cells)
-rows_text-add f cols zero n cells = rw (zero-add, zero-mul) refl
+pub rows_text-add : {X : Type 0} (f : X → List ℕ) (cols m n : ℕ) (cells : List X) →
+    rows_text f cols (m + n) cells ≡ rows_text f cols m cells ++ rows_text f cols n (drop (m * cols) cells)
+rows_text-add f cols zero n cells = rw (zero-add, zero-mul)
 rows_text-add {X} f cols (suc m) n cells =
-    ap (λ k. rows_text f cols k cells) (let e : suc m + n ≡ suc (m + n) = omega arith in e)
-    ∙ ap (λ z. row_text f (take cols cells) ++ z) (rows_text-add f cols m n (drop cols cells))
-    ∙ sym (append_assoc (row_text f (take cols cells)) (rows_text f cols m (drop cols cells))
-    (rows_text f cols n (drop (m * cols) (drop cols cells))))
-    ∙ ap (λ (z : List X). (row_text f (take cols cells) ++ rows_text f cols m (drop cols cells))
-    ++ rows_text f cols n z) (drop-drop (m * cols) cols cells
-    ∙ ap (λ k. drop k cells) (let e : cols + m * cols ≡ suc m * cols = omega arith in e))
+    rw (let e : suc m + n ≡ suc (m + n) = omega arith in e)
+    (ap (row_text f (take cols cells) ++◌) (rows_text-add f cols m n _) ∙
+    sym (append_assoc _ _ (rows_text f cols n (drop (m * cols) (drop cols cells)))) ∙ ap
+    (λ z. (row_text f (take cols cells) ++ rows_text f cols m (drop cols cells)) ++ rows_text f cols n z)
+    (drop-drop _ cols cells ∙ ap (λ k. drop k cells) ((omega arith))))
 
-pub rows_more : {X : Type 0} (f : X → List ℕ) (cols n : ℕ) (cells : List X) → rows_text f cols (n
-    + 1) cells ≡ rows_text f cols n cells ++ row_text f (take cols (drop (n * cols) cells))
-rows_more f cols n cells = rows_text-add f cols n 1 cells ∙ ap (λ z. rows_text f cols n cells
-    ++ z) (append-nil (row_text f (take cols (drop (n * cols) cells))))
+module _ {X : Type 0} (f : X → List ℕ) (cols : ℕ) where
+  pub rows_more : (n : ℕ) (cells : List X) →
+      rows_text f cols (n + 1) cells ≡ rows_text f cols n cells ++ row_text f (take cols (drop (n * cols) cells))
+  rows_more n cells = rows_text-add f cols n 1 cells ∙ rw append-nil refl
 
-pub rows_split : {X : Type 0} (f : X → List ℕ) (cols rows n : ℕ) (cells : List X) →
-    n < rows → rows_text f cols rows cells ≡ (rows_text f cols n cells ++ row_text f (take cols
-    (drop (n * cols) cells))) ++ rows_text f cols (rows - (n + 1)) (drop ((n + 1) * cols) cells)
-rows_split f cols rows n cells h =
-    ap (λ k.
-    rows_text f cols k cells) (let e : rows ≡ (n + 1) + (rows - (n + 1)) = omega arith in e)
-    ∙ rows_text-add f cols (n + 1) (rows - (n + 1)) cells
-    ∙ ap (λ z. z ++ rows_text f cols (rows - (n + 1)) (drop ((n + 1) * cols) cells))
-    (rows_more f cols n cells)
+  pub rows_split : (rows n : ℕ) (cells : List X) → n < rows → rows_text f cols rows cells ≡
+      (rows_text f cols n cells ++ row_text f (take cols (drop (n * cols) cells))) ++
+      rows_text f cols (rows - (n + 1)) (drop ((n + 1) * cols) cells)
+  rows_split rows n cells h =
+      ap (λ k. rows_text f cols k cells) ((omega arith)) ∙ rows_text-add f cols _ _ cells ∙
+      ap (λ z. z ++ rows_text f cols (rows - (n + 1)) (drop ((n + 1) * cols) cells)) (rows_more n cells)
 
 pub whole_rows : (n cols rows : ℕ) → n ≡ cols * rows → 1 ≤ cols → n / cols ≡ rows
-whole_rows n cols rows size some = ap (λ m. m / cols) size
-    ∙ mul-div_cancel_left rows (omega (arith, some))
+whole_rows n cols rows size some = rw size (mul-div_cancel_left rows (omega arith))
 
 pub rows_take : {X : Type 0} (f : X → List ℕ) (cols n : ℕ) (cells : List X) →
     rows_text f cols n (take (n * cols) cells) ≡ rows_text f cols n cells
 rows_take f cols zero cells = refl
 rows_take {X} f cols (suc n) cells =
-    let size : suc n * cols ≡ cols + n * cols = omega arith in
-    let front : take cols (take (suc n * cols) cells) ≡ take cols cells =
-    take-take cols (suc n * cols) cells (omega arith) in
-    let back : drop cols (take (suc n * cols) cells) ≡ take (n * cols) (drop cols cells) =
-    ap (λ k. drop cols (take k cells)) size ∙ drop-take cols (n * cols) cells in
-    ap (λ (z : List X). row_text f z
-    ++ rows_text f cols n (drop cols (take (suc n * cols) cells))) front
-    ∙ ap (λ (z : List X). row_text f (take cols cells) ++ rows_text f cols n z) back
-    ∙ ap (λ z. row_text f (take cols cells) ++ z) (rows_take f cols n (drop cols cells))
+    let back = ap (λ k. drop cols (take k cells)) (omega arith) ∙ drop-take cols _ cells in
+    ap (λ z. row_text f z ++ rows_text f cols n (drop cols (take (suc n * cols) cells)))
+    (take-take cols _ cells (omega arith)) ∙ ap (λ z. row_text f (take cols cells) ++ rows_text f cols n z) back ∙
+    ap (row_text f (take cols cells) ++◌) (rows_take f cols n _)

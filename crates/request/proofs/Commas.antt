@@ -15,18 +15,16 @@ is_comma b = eqb b 44
 
 pub split_some : (xs : List ℕ) (at : ℕ) → position is_comma xs ≡ Some at →
     slice_split is_comma xs ≡ take at xs ∷ slice_split is_comma (drop (at + 1) xs)
-split_some xs at e = go (nat_lt (position_or_len is_comma xs) (length xs)) refl e where
+split_some xs at e = go _ refl e where
   go : (t : Bool) → nat_lt (position_or_len is_comma xs) (length xs) ≡ t →
       cond t (Some (position_or_len is_comma xs)) None ≡ Some at →
       slice_split is_comma xs ≡ take at xs ∷ slice_split is_comma (drop (at + 1) xs)
   go false h none = absurd (cc)
   go true h same =
-      subst (λ (i : ℕ). slice_split is_comma xs ≡ take i xs
-      ∷ slice_split is_comma (drop (i + 1) xs)) (same_Some _ at same)
-      (slice_split_first is_comma xs 0 (ltb-true _ _ h))
+      rw (same_Some _ at same) at (slice_split_first is_comma xs 0 (ltb-true _ _ h))
 
 pub split_none : (xs : List ℕ) → position is_comma xs ≡ None → slice_split is_comma xs ≡ xs ∷ []
-split_none xs e = go (nat_lt (position_or_len is_comma xs) (length xs)) refl e where
+split_none xs e = go _ refl e where
   go : (t : Bool) → nat_lt (position_or_len is_comma xs) (length xs) ≡ t →
       cond t (Some (position_or_len is_comma xs)) None ≡ None → slice_split is_comma xs ≡ xs ∷ []
   go true h some = absurd (cc)
@@ -37,7 +35,7 @@ split_none xs e = go (nat_lt (position_or_len is_comma xs) (length xs)) refl e w
 four_parts : (row col eye : List ℕ) (parts : List (List ℕ)) → 0 < length parts →
     observer_of_parts (row ∷ col ∷ eye ∷ parts) ≡ None
 four_parts row col eye [] some = absurd (omega arith)
-four_parts row col eye (part ∷ parts) some = refl
+four_parts row col eye parts some = refl
 
 pub too_many_parts : (word rest eye row col third fourth : List ℕ) → slice_split is_comma word ≡ row
     ∷ slice_split is_comma rest → slice_split is_comma rest ≡ col ∷ slice_split is_comma eye →
@@ -50,7 +48,7 @@ too_many_parts word rest eye row col third fourth a b c =
 three_parts : (row col : List ℕ) (parts : List (List ℕ)) → 0 < length parts →
     place_of_parts (row ∷ col ∷ parts) ≡ None
 three_parts row col [] some = absurd (omega arith)
-three_parts row col (part ∷ parts) some = refl
+three_parts row col parts some = refl
 
 pub no_sink : (word col row second third : List ℕ) →
     slice_split is_comma word ≡ row ∷ slice_split is_comma col →

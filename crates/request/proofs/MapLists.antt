@@ -9,7 +9,7 @@ use Rattle.request.specs.MapWords.{has_repeat, is_among}
 pub any_of_texts : (test : Text → Bool) (words : List (Bor Text)) →
     list_any (λ (w : Bor Text). test w.now) words ≡ list_any test (map (λ w. w.now) words)
 any_of_texts test [] = refl
-any_of_texts test (w ∷ words) = ap (λ b. test w.now || b) (any_of_texts test words)
+any_of_texts test (w ∷ words) = rw (any_of_texts test words) refl
 
 -- what follows the first word, as the slice pattern takes it
 abbrev pub after_first : List (Bor Text) → List Text

@@ -1,6 +1,6 @@
 -- The subcommand that `clap` finds, with its values, decides what a command line requests, or which
 -- fault the command line has.
-use Rattle.std.proofs.Common.{◌≡◌, ℕ, List, [], ◌∷◌, length, map, eqb, Option, Some, None, true, false, codes, sym, ap, ap₂, subst, refl, inl, ◌∙◌, Bor, Box}
+use Rattle.std.proofs.Common.{◌≡◌, ℕ, List, [], length, map, eqb, Option, Some, None, true, false, codes, sym, ap, ap₂, subst, refl, inl, ◌∙◌, Bor, Box}
 use Rattle.std.specs.Prelude.{option_map}
 use Rattle.std.specs.Box.{box_value}
 use Rattle.std.proofs.lemmas.Option.{none-some, same_Some}
@@ -45,13 +45,13 @@ pub named_by : {Z : Type 0} (x : Option (Box SubCommand Z)) (n : Text) (rs : Lis
     Some rs ≡ option_map (λ (p : Text × List Row). p.1) (subcommand_rows x) →
     subcommand_rows x ≡ Some (n, rs)
 named_by None n rs name rows = absurd (none-some n (sym name))
-named_by (Some b) n rs name rows = ap₂ (λ (k : Text) (r : List Row).
+named_by b n rs name rows = ap₂ (λ (k : Text) (r : List Row).
     Some (k, r)) (sym (same_Some _ _ name)) (sym (same_Some _ _ rows))
 
 pub none_by : {Z : Type 0} (x : Option (Box SubCommand Z)) →
     None ≡ option_map (λ (p : Text × List Row). p.1) (subcommand_rows x) → subcommand_rows x ≡ None
 none_by None none = refl
-none_by (Some b) none = absurd (cc)
+none_by b none = absurd (cc)
 
 module _ (words : List Text) (accepted : fault_of program_app words ≡ []) where
   pub none_named : subcommand_of program_app words ≡ None → IsFaultOf words NoMap
@@ -251,4 +251,4 @@ module _ (words : List Text) (accepted : fault_of program_app words ≡ []) wher
 pub words_given_some : (words : List (Bor Text)) → eqb (length words) 0 ≡ false →
     words_given (map (λ w. w.now) words) ≡ map (λ w. w.now) words
 words_given_some [] some = absurd (cc)
-words_given_some (w ∷ words) some = refl
+words_given_some words some = refl

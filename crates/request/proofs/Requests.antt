@@ -36,128 +36,66 @@ letters (Several maps gauges) = 24944
 abbrev letters_of : Text → ℕ
 letters_of t = slice_index t 1 * 256 + slice_index t 2
 
-name_letters : (name : Text) (rows : List Row) (m : Map) → Names name rows m →
-    letters_of name ≡ letters m
-name_letters name rows Fill n = ap letters_of n
-name_letters name rows Flow n = ap letters_of n
-name_letters name rows Accumulate n = ap letters_of n
-name_letters name rows Basins n = ap letters_of n
+name_letters : (name : Text) (rows : List Row) (m : Map) → Names name rows m → letters_of name ≡ letters m
 name_letters name rows (Catchments gauges) n = ap letters_of n.0
 name_letters name rows (View observers target radius) n = ap letters_of n.0
 name_letters name rows (Rise observers radius) n = ap letters_of n.0
 name_letters name rows (Several maps gauges) n = ap letters_of n.0
+name_letters name rows m n = ap letters_of n
 
 same_somes : {X : Type 0} (xs ys : List X) → map Some xs ≡ map Some ys → xs ≡ ys
 same_somes [] [] e = refl
 same_somes [] (y ∷ ys) e = absurd (cc)
 same_somes (x ∷ xs) [] e = absurd (cc)
-same_somes {X} (x ∷ xs) (y ∷ ys) e = ap₂ (λ (z : X) (zs : List X). z ∷ zs) (same_Some x y
-    (ap (λ (zs : List (Option X)). get_or zs 0 None) e)) (same_somes xs ys (ap (drop 1) e))
+same_somes {X} (x ∷ xs) (y ∷ ys) e =
+    ap₂ (λ (z : X) (zs : List X). z ∷ zs) (same_Some x y (ap (λ (zs : List (Option X)). get_or zs 0 None) e))
+    (same_somes xs ys (ap (drop 1) e))
 
-one_map : (name : Text) (rows : List Row) (m n : Map) → Names name rows m → Names name rows n →
-    letters m ≡ letters n → AreSame m n
+one_map : (name : Text) (rows : List Row) (m n : Map) → Names name rows m → Names name rows n → letters m ≡ letters n →
+    AreSame m n
 one_map name rows Fill Fill a b e = refl
-one_map name rows Fill Flow a b e = absurd (omega arith)
-one_map name rows Fill Accumulate a b e = absurd (omega arith)
-one_map name rows Fill Basins a b e = absurd (omega arith)
-one_map name rows Fill (Catchments others) a b e = absurd (omega arith)
-one_map name rows Fill (View others height reach) a b e = absurd (omega arith)
-one_map name rows Fill (Rise others reach) a b e = absurd (omega arith)
-one_map name rows Fill (Several others places) a b e = absurd (omega arith)
-one_map name rows Flow Fill a b e = absurd (omega arith)
 one_map name rows Flow Flow a b e = refl
-one_map name rows Flow Accumulate a b e = absurd (omega arith)
-one_map name rows Flow Basins a b e = absurd (omega arith)
-one_map name rows Flow (Catchments others) a b e = absurd (omega arith)
-one_map name rows Flow (View others height reach) a b e = absurd (omega arith)
-one_map name rows Flow (Rise others reach) a b e = absurd (omega arith)
-one_map name rows Flow (Several others places) a b e = absurd (omega arith)
-one_map name rows Accumulate Fill a b e = absurd (omega arith)
-one_map name rows Accumulate Flow a b e = absurd (omega arith)
 one_map name rows Accumulate Accumulate a b e = refl
-one_map name rows Accumulate Basins a b e = absurd (omega arith)
-one_map name rows Accumulate (Catchments others) a b e = absurd (omega arith)
-one_map name rows Accumulate (View others height reach) a b e = absurd (omega arith)
-one_map name rows Accumulate (Rise others reach) a b e = absurd (omega arith)
-one_map name rows Accumulate (Several others places) a b e = absurd (omega arith)
-one_map name rows Basins Fill a b e = absurd (omega arith)
-one_map name rows Basins Flow a b e = absurd (omega arith)
-one_map name rows Basins Accumulate a b e = absurd (omega arith)
 one_map name rows Basins Basins a b e = refl
-one_map name rows Basins (Catchments others) a b e = absurd (omega arith)
-one_map name rows Basins (View others height reach) a b e = absurd (omega arith)
-one_map name rows Basins (Rise others reach) a b e = absurd (omega arith)
-one_map name rows Basins (Several others places) a b e = absurd (omega arith)
-one_map name rows (Catchments gauges) Fill a b e = absurd (omega arith)
-one_map name rows (Catchments gauges) Flow a b e = absurd (omega arith)
-one_map name rows (Catchments gauges) Accumulate a b e = absurd (omega arith)
-one_map name rows (Catchments gauges) Basins a b e = absurd (omega arith)
-one_map name rows (Catchments gauges) (Catchments others) a b e =
-    same_somes gauges.items others.items (sym a.1 ∙ b.1)
-one_map name rows (Catchments gauges) (View others height reach) a b e = absurd (omega arith)
-one_map name rows (Catchments gauges) (Rise others reach) a b e = absurd (omega arith)
-one_map name rows (Catchments gauges) (Several others places) a b e = absurd (omega arith)
-one_map name rows (View observers target radius) Fill a b e = absurd (omega arith)
-one_map name rows (View observers target radius) Flow a b e = absurd (omega arith)
-one_map name rows (View observers target radius) Accumulate a b e = absurd (omega arith)
-one_map name rows (View observers target radius) Basins a b e = absurd (omega arith)
-one_map name rows (View observers target radius) (Catchments others) a b e = absurd (omega arith)
+one_map name rows (Catchments gauges) (Catchments others) a b e = same_somes gauges.items others.items (sym a.1 ∙ b.1)
 one_map name rows (View observers target radius) (View others height reach) a b e = (
   same_somes observers.items others.items (sym a.1 ∙ b.1),
   same_number rows (codes "target") target height a.2 b.2,
   same_number rows (codes "radius") radius reach a.3 b.3,
 )
-one_map name rows (View observers target radius) (Rise others reach) a b e = absurd (omega arith)
-one_map name rows (View observers target radius) (Several others places) a b e = absurd (omega arith)
-one_map name rows (Rise observers radius) Fill a b e = absurd (omega arith)
-one_map name rows (Rise observers radius) Flow a b e = absurd (omega arith)
-one_map name rows (Rise observers radius) Accumulate a b e = absurd (omega arith)
-one_map name rows (Rise observers radius) Basins a b e = absurd (omega arith)
-one_map name rows (Rise observers radius) (Catchments others) a b e = absurd (omega arith)
-one_map name rows (Rise observers radius) (View others height reach) a b e = absurd (omega arith)
 one_map name rows (Rise observers radius) (Rise others reach) a b e = (
   same_somes observers.items others.items (sym a.1 ∙ b.1),
   same_number rows (codes "radius") radius reach a.2 b.2,
 )
-one_map name rows (Rise observers radius) (Several others places) a b e = absurd (omega arith)
-one_map name rows (Several maps gauges) Fill a b e = absurd (omega arith)
-one_map name rows (Several maps gauges) Flow a b e = absurd (omega arith)
-one_map name rows (Several maps gauges) Accumulate a b e = absurd (omega arith)
-one_map name rows (Several maps gauges) Basins a b e = absurd (omega arith)
-one_map name rows (Several maps gauges) (Catchments others) a b e = absurd (omega arith)
-one_map name rows (Several maps gauges) (View others height reach) a b e = absurd (omega arith)
-one_map name rows (Several maps gauges) (Rise others reach) a b e = absurd (omega arith)
 one_map name rows (Several maps gauges) (Several others places) a b e = (
   same_somes maps.items others.items (sym a.2 ∙ b.2),
   same_somes gauges.items places.items (sym a.1 ∙ b.1),
 )
+one_map name rows m n a b e = absurd (omega arith)
 
-pub one_request : (words : List Text) (request other : Request) → RequestFor words request →
-    RequestFor words other →
-    AreSame request.map other.map × (request.tile ≡ other.tile) × (request.workers ≡ other.workers)
-    × (request.scale ≡ other.scale) × (request.sinks ≡ other.sinks)
-    × (request.progress ≡ other.progress)
+pub one_request : (words : List Text) (request other : Request) → RequestFor words request → RequestFor words other →
+    AreSame request.map other.map × (request.tile ≡ other.tile) × (request.workers ≡ other.workers) ×
+    (request.scale ≡ other.scale) × (request.sinks ≡ other.sinks) × (request.progress ≡ other.progress)
 one_request words request other a b =
     let command = same_Some _ _ (sym b.command.found ∙ a.command.found) in
     let map = subst (λ (p : Text × List Row). Names p.0 p.1 other.map) command b.map in
-    let options = subst (λ (p : Text × List Row).
-    HasOptions p.1 other.tile other.workers other.scale) command b.options in (
-      one_map a.name a.rows request.map other.map a.map map (sym
-          (name_letters a.name a.rows request.map a.map) ∙ name_letters a.name a.rows other.map map),
+    let options =
+    subst (λ (p : Text × List Row). HasOptions p.1 other.tile other.workers other.scale) command b.options in (
+      one_map a.name a.rows request.map other.map a.map map
+          (sym (name_letters a.name a.rows request.map a.map) ∙ name_letters a.name a.rows other.map map),
       same_number a.rows (codes "tile") _ _ a.options.0 options.0,
       same_number a.rows (codes "workers") _ _ a.options.1 options.1,
       same_number a.rows (codes "scale") _ _ a.options.2 options.2,
-      same_somes request.sinks other.sinks (sym a.sinks ∙ subst (λ (p : Text × List Row).
-          Spell place_of_word (sink_words p.0 p.1) other.sinks) command b.sinks),
-      a.progress ∙ ap (λ (p : Text × List Row). is_flag_given (codes "progress") p.1) (sym command)
-          ∙ sym b.progress,
+      same_somes request.sinks other.sinks (sym a.sinks ∙
+          subst (λ (p : Text × List Row). Spell place_of_word (sink_words p.0 p.1) other.sinks) command b.sinks),
+      a.progress ∙ ap (λ (p : Text × List Row). is_flag_given (codes "progress") p.1) (sym command) ∙ sym b.progress,
     )
 
 none_any : (P : ErrorKind → Type 0) (ks : Kinds) → ks ≡ [] → Any P ks → ⊥
-none_any P ks none any = let some = subst (Any P) none any in absurd (omega (arith, some.2))
+none_any P ks none any = let some = rw none at any in absurd (omega (arith, some.2))
 
-pub request_accepted : (words : List Text) (request : Request) → RequestFor words request →
-    ¬ AskForHelp words × ¬ AreRefused words
+pub request_accepted : (words : List Text) (request : Request) →
+    RequestFor words request → ¬ AskForHelp words × ¬ AreRefused words
 request_accepted words request w = (
   none_any IsHelp _ w.command.accepted,
   λ refused. elim refused [
@@ -171,14 +109,14 @@ abbrev rows_in : List Text → List Row
 rows_in words = option_map_or (λ p. p.1) (subcommand_of program_app words) []
 
 spelled : (rows : List Row) (id text : Text) (n : ℕ) → one_of id rows ≡ Some text →
-    IsNumeral 10 (without_leading_plus text) → digits_value 10 (without_leading_plus text) ≡ n →
-    n < 2 ^ 32 → HasNumber rows id n
+    IsNumeral 10 (without_leading_plus text) → digits_value 10 (without_leading_plus text) ≡ n → n < 2 ^ 32 →
+    HasNumber rows id n
 spelled rows id text n given numeral value small =
     record { text = text; given = given; numeral = numeral; spelled = value; small = small }
 
 default_options : (given : List Row) → one_of (codes "tile") given ≡ Some (codes "256") →
-    one_of (codes "workers") given ≡ Some (codes "1")
-    → one_of (codes "scale") given ≡ Some (codes "0") → HasOptions given 256 1 0
+    one_of (codes "workers") given ≡ Some (codes "1") → one_of (codes "scale") given ≡ Some (codes "0") →
+    HasOptions given 256 1 0
 default_options given tile workers scale = (
   spelled given (codes "tile") (codes "256") 256 tile (search rules) refl (omega arith),
   spelled given (codes "workers") (codes "1") 1 workers (search rules) refl (omega arith),
@@ -235,8 +173,8 @@ sink_of_an_option = record {
 
 abbrev catchments_words : List Text
 catchments_words =
-    codes "relief" ∷ codes "catchments" ∷ codes "--progress" ∷ codes "--sink" ∷ codes "1,2"
-    ∷ codes "--sink" ∷ codes "0,3" ∷ codes "4,5" ∷ []
+    codes "relief" ∷ codes "catchments" ∷ codes "--progress" ∷ codes "--sink" ∷ codes "1,2" ∷ codes "--sink" ∷
+    codes "0,3" ∷ codes "4,5" ∷ []
 
 pub catchments_of_a_gauge : CatchmentsOfAGauge
 unfolding clap_on_literals
@@ -252,9 +190,7 @@ catchments_of_a_gauge gauges one = record {
 }
 
 abbrev maps_words : List Text
-maps_words =
-    codes "relief" ∷ codes "maps" ∷ codes "--gauge" ∷ codes "4,5" ∷ codes "flow"
-    ∷ codes "catchments" ∷ []
+maps_words = codes "relief" ∷ codes "maps" ∷ codes "--gauge" ∷ codes "4,5" ∷ codes "flow" ∷ codes "catchments" ∷ []
 
 pub maps_in_order : MapsInOrder
 unfolding clap_on_literals
@@ -286,10 +222,8 @@ view_with_radius observers one = record {
   map = (
     refl,
     ap (λ (os : List Observer). map Some os) (sym one),
-    spelled (rows_in view_words) (codes "target") (codes "0") 0 refl (search rules) refl
-        (omega arith),
-    spelled (rows_in view_words) (codes "radius") (codes "5") 5 refl (search rules) refl
-        (omega arith),
+    spelled (rows_in view_words) (codes "target") (codes "0") 0 refl (search rules) refl (omega arith),
+    spelled (rows_in view_words) (codes "radius") (codes "5") 5 refl (search rules) refl (omega arith),
   );
   sinks = refl;
   options = default_options (rows_in view_words) refl refl refl;
@@ -309,8 +243,7 @@ rise_with_radius observers one = record {
   map = (
     refl,
     ap (λ (os : List Observer). map Some os) (sym one),
-    spelled (rows_in rise_words) (codes "radius") (codes "5") 5 refl (search rules) refl
-        (omega arith),
+    spelled (rows_in rise_words) (codes "radius") (codes "5") 5 refl (search rules) refl (omega arith),
   );
   sinks = refl;
   options = default_options (rows_in rise_words) refl refl refl;
@@ -330,13 +263,7 @@ no_target_of_a_rise = inl (
 
 pub no_side_of_zero : NoSideOfZero
 unfolding clap_on_literals
-no_side_of_zero = inl (
-  0,
-  kind.ValueValidation,
-  omega arith,
-  refl,
-  λ help. elim help [ inl same ↦ cc | inr same ↦ cc ],
-)
+no_side_of_zero = inl (0, kind.ValueValidation, omega arith, refl, λ help. elim help [ inl same ↦ cc | inr same ↦ cc ])
 
 pub help_of_view : HelpOfView
 unfolding clap_on_literals

@@ -11,23 +11,19 @@ use Rattle.tile_jobs.specs.declared.deque.DequeEntry.TheVariants.{Job, End}
 use Rattle.tile_jobs.specs.Board.{deal, feed, jobs_in, jobs_of, end_count, times, IsRising}
 
 module _ {A : Type 0} where
-  pub cut_below : (xs : List A) (t : ℕ) (x : A) (rest : List A) → x ∷ rest ≡ drop t xs →
-      t < length xs
+  pub cut_below : (xs : List A) (t : ℕ) (x : A) (rest : List A) → x ∷ rest ≡ drop t xs → t < length xs
   cut_below xs t x rest e = omega (arith, ap length e, length-drop t xs)
 
-  pub get_drop : (xs : List A) (t : ℕ) (x d : A) (rest : List A) → x ∷ rest ≡ drop t xs →
-      x ≡ get_or xs t d
-  get_drop xs t x d rest e = ap (λ l. get_or l 0 d) e ∙ get_or-drop t xs 0 d
-      ∙ ap (λ n. get_or xs n d) (add-zero t)
+  pub get_drop : (xs : List A) (t : ℕ) (x d : A) (rest : List A) → x ∷ rest ≡ drop t xs → x ≡ get_or xs t d
+  get_drop xs t x d rest e = ap (λ l. get_or l 0 d) e ∙ get_or-drop t xs 0 d ∙ ap (λ n. get_or xs n d) (add-zero t)
 
   pub cut_take : (xs : List A) (t : ℕ) (x : A) (rest : List A) → x ∷ rest ≡ drop t xs →
       take (suc t) xs ≡ take t xs ++ x ∷ []
   cut_take xs t x rest e =
-      ap (λ n. take n xs) (sym (add-one t)) ∙ take_more xs t x (cut_below xs t x rest e)
-      ∙ ap (λ y. take t xs ++ y ∷ []) (sym (get_drop xs t x x rest e))
+      ap (λ n. take n xs) (sym (add-one t)) ∙ take_more xs t x (cut_below xs t x rest e) ∙
+      ap (λ y. take t xs ++ y ∷ []) (sym (get_drop xs t x x rest e))
 
-  pub cut_drop : (xs : List A) (t : ℕ) (x : A) (rest : List A) → x ∷ rest ≡ drop t xs →
-      rest ≡ drop (suc t) xs
+  pub cut_drop : (xs : List A) (t : ℕ) (x : A) (rest : List A) → x ∷ rest ≡ drop t xs → rest ≡ drop (suc t) xs
   cut_drop xs t x rest e = ap (drop 1) e ∙ drop-drop 1 t xs ∙ ap (λ n. drop n xs) (add-one t)
 
   pub cut_past : (xs : List A) (t : ℕ) → [] ≡ drop t xs → length xs ≤ t
@@ -35,17 +31,17 @@ module _ {A : Type 0} where
 
 pub times_append : (x : ℕ) (xs ys : List ℕ) → times x (xs ++ ys) ≡ times x xs + times x ys
 times_append x [] ys = omega arith
-times_append x (y ∷ xs) ys = let h = times_append x xs ys in omega arith
+times_append x (y ∷ xs) ys = omega (arith, times_append x xs ys)
 
 pub jobs_append : (es fs : List DequeEntry) → jobs_of (es ++ fs) ≡ jobs_of es ++ jobs_of fs
 jobs_append [] fs = refl
-jobs_append (Job j ∷ es) fs = ap (λ l. j ∷ l) (jobs_append es fs)
+jobs_append (Job j ∷ es) fs = rw (jobs_append es fs) refl
 jobs_append (End ∷ es) fs = jobs_append es fs
 
 pub ends_append : (es fs : List DequeEntry) → end_count (es ++ fs) ≡ end_count es + end_count fs
 ends_append [] fs = omega arith
 ends_append (Job j ∷ es) fs = ends_append es fs
-ends_append (End ∷ es) fs = let h = ends_append es fs in omega arith
+ends_append (End ∷ es) fs = omega (arith, ends_append es fs)
 
 pub jobs_ends : (n : ℕ) → jobs_of (replicate n End) ≡ []
 jobs_ends zero = refl
@@ -57,7 +53,7 @@ ends_ends (suc n) = ap suc (ends_ends n)
 
 pub jobs_jobs : (d : List ℕ) → jobs_of (jobs_in d) ≡ d
 jobs_jobs [] = refl
-jobs_jobs (j ∷ d) = ap (λ l. j ∷ l) (jobs_jobs d)
+jobs_jobs (j ∷ d) = rw (jobs_jobs d) refl
 
 pub ends_jobs : (d : List ℕ) → end_count (jobs_in d) ≡ 0
 ends_jobs [] = refl
@@ -69,8 +65,9 @@ no_job zero (suc t) j rest e = cc
 no_job (suc n) zero j rest e = cc
 no_job (suc n) (suc t) j rest e = no_job n t j rest e
 
-pub job_early : (d : List ℕ) (n t j : ℕ) (rest : List DequeEntry) → Job j ∷ rest ≡ drop t (jobs_in d
-    ++ replicate n End) → (t < length d) × (end_count (take t (jobs_in d ++ replicate n End)) ≡ 0)
+pub job_early : (d : List ℕ) (n t j : ℕ) (rest : List DequeEntry) →
+    Job j ∷ rest ≡ drop t (jobs_in d ++ replicate n End) →
+    (t < length d) × (end_count (take t (jobs_in d ++ replicate n End)) ≡ 0)
 job_early [] n t j rest e = absurd (no_job n t j rest e)
 job_early (i ∷ d) n zero j rest e = (omega arith, refl)
 job_early (i ∷ d) n (suc t) j rest e = let h = job_early d n t j rest e in (omega arith, h.1)
@@ -86,17 +83,17 @@ mark_late [] n zero h = refl
 mark_late [] zero (suc t) h = refl
 mark_late [] (suc n) (suc t) h = no_jobs n t
 mark_late (i ∷ d) n zero h = absurd (omega arith)
-mark_late (i ∷ d) n (suc t) h = ap (λ l. i ∷ l) (mark_late d n t h)
+mark_late (i ∷ d) n (suc t) h = rw (mark_late d n t h) refl
 
 times_self : (x : ℕ) → ◌≡◌ {A = ℕ} (cond (x == x) 1 0) 1
-times_self x = ap (λ b. cond b 1 0) (eq-eqb x x refl)
+times_self x = rw eq-eqb refl
 
-pub times_deal : (j seats v y : ℕ) → times y (deal (suc j) seats v) ≡ times y (deal j seats v)
-    + cond (j % seats == v) (cond (j == y) 1 0) 0
+pub times_deal : (j seats v y : ℕ) →
+    times y (deal (suc j) seats v) ≡ times y (deal j seats v) + cond (j % seats == v) (cond (j == y) 1 0) 0
 times_deal j seats v y =
     let split = times_append y (deal j seats v) (j ∷ []) in
-    elim (j % seats == v) as (λ b. times y (cond b (deal j seats v ++ j ∷ []) (deal j seats v))
-    ≡ times y (deal j seats v) + cond b (cond (j == y) 1 0) 0) [
+    elim (j % seats == v) as (λ b. times y (cond b (deal j seats v ++ j ∷ []) (deal j seats v)) ≡
+    times y (deal j seats v) + cond b (cond (j == y) 1 0) 0) [
       | true ↦ omega arith
       | false ↦ omega arith
     ]
@@ -108,11 +105,11 @@ deal_is (suc j) seats v y n =
     elim (cases_eq j y) [
       | inl e ↦ elim (cases_eq (j % seats) v) [
         | inl r ↦ (omega arith, ap (λ k. k % seats) (sym e) ∙ r)
-        | inr far ↦ let t = ne_eqb (j % seats) v far in let h = deal_is j seats v y (let m =
-            rw (split, t) at n in omega arith) in (omega (arith, h.0), h.1)
+        | inr far ↦ let t = ne_eqb (j % seats) v far in
+            let h = deal_is j seats v y (let m = rw (split, t) at n in omega arith) in (omega (arith, h.0), h.1)
       ]
-      | inr far ↦ let t = ne_eqb j y far in let h =
-          deal_is j seats v y (grind (arith, nat_tests)) in (omega (arith, h.0), h.1)
+      | inr far ↦ let t = ne_eqb j y far in let h = deal_is j seats v y (grind (arith, nat_tests)) in
+          (omega (arith, h.0), h.1)
     ]
 
 pub feed_jobs : (jobs seats v : ℕ) → jobs_of (feed jobs seats v) ≡ deal jobs seats v
@@ -123,16 +120,15 @@ pub feed_ends : (jobs seats v : ℕ) → end_count (feed jobs seats v) ≡ seats
 unfolding feed
 feed_ends jobs seats v = rw (ends_append, ends_jobs, ends_ends) (omega arith)
 
-pub feed_early : (jobs seats v t j : ℕ) (rest : List DequeEntry) →
-    Job j ∷ rest ≡ drop t (feed jobs seats v) → (t < length (deal jobs seats v))
-    × (end_count (take t (feed jobs seats v)) ≡ 0)
+pub feed_early : (jobs seats v t j : ℕ) (rest : List DequeEntry) → Job j ∷ rest ≡ drop t (feed jobs seats v) →
+    (t < length (deal jobs seats v)) × (end_count (take t (feed jobs seats v)) ≡ 0)
 unfolding feed
 feed_early jobs seats v t j rest e = job_early (deal jobs seats v) seats t j rest e
 
 pub feed_late : (jobs seats v t : ℕ) → 0 < end_count (take t (feed jobs seats v)) →
     jobs_of (take t (feed jobs seats v)) ≡ deal jobs seats v
 unfolding feed
-feed_late jobs seats v t h = mark_late (deal jobs seats v) seats t h
+feed_late jobs seats v t h = mark_late _ seats t h
 
 times_at : (xs : List ℕ) (k d : ℕ) → k < length xs → 0 < times (get_or xs k d) xs
 times_at [] k d low = absurd (omega arith)
@@ -167,27 +163,24 @@ rising_before (z ∷ xs) ys j x is n =
     ]
 
 -- The jobs of the feed before job j, then j, then the jobs after it, are the deal.
-feed_parts : (jobs seats v t j : ℕ) (rest : List DequeEntry) →
-    Job j ∷ rest ≡ drop t (feed jobs seats v)
-    → jobs_of (take t (feed jobs seats v)) ++ (j ∷ jobs_of rest) ≡ deal jobs seats v
+feed_parts : (jobs seats v t j : ℕ) (rest : List DequeEntry) → Job j ∷ rest ≡ drop t (feed jobs seats v) →
+    jobs_of (take t (feed jobs seats v)) ++ (j ∷ jobs_of rest) ≡ deal jobs seats v
 feed_parts jobs seats v t j rest e =
     let all = feed jobs seats v in
-    sym (jobs_append (take t all) (Job j ∷ rest)) ∙ ap (λ l. jobs_of (take t all ++ l)) e
-    ∙ ap jobs_of (take-append-drop t all) ∙ feed_jobs jobs seats v
+    sym (jobs_append (take t all) (Job j ∷ rest)) ∙ ap (λ l. jobs_of (take t all ++ l)) e ∙
+    ap jobs_of (take-append-drop t all) ∙ feed_jobs jobs seats v
 
-pub feed_is : (jobs seats v t j : ℕ) (rest : List DequeEntry) →
-    Job j ∷ rest ≡ drop t (feed jobs seats v) → (j < jobs) × (j % seats ≡ v)
+pub feed_is : (jobs seats v t j : ℕ) (rest : List DequeEntry) → Job j ∷ rest ≡ drop t (feed jobs seats v) →
+    (j < jobs) × (j % seats ≡ v)
 feed_is jobs seats v t j rest e =
     let before = jobs_of (take t (feed jobs seats v)) in
     let counts = times_append j before (j ∷ jobs_of rest) in
     let one = times_self j in
-    deal_is jobs seats v j (subst (λ l. 0 < times j l) (feed_parts jobs seats v t j rest e)
-    (omega arith))
+    deal_is jobs seats v j (subst (λ l. 0 < times j l) (feed_parts jobs seats v t j rest e) (omega arith))
 
 -- A job of the feed is greater than each job before it.
-pub feed_rises : (jobs seats v t j : ℕ) (rest : List DequeEntry) →
-    Job j ∷ rest ≡ drop t (feed jobs seats v)
-    → (x : ℕ) → 0 < times x (jobs_of (take t (feed jobs seats v))) → x < j
+pub feed_rises : (jobs seats v t j : ℕ) (rest : List DequeEntry) → Job j ∷ rest ≡ drop t (feed jobs seats v) → (x : ℕ) →
+    0 < times x (jobs_of (take t (feed jobs seats v))) → x < j
 feed_rises jobs seats v t j rest e x n =
     rising_before (jobs_of (take t (feed jobs seats v))) (jobs_of rest) j x
     (subst IsRising (sym (feed_parts jobs seats v t j rest e)) (deal_rises jobs seats v)) n

@@ -1,22 +1,19 @@
 use Rattle.std.proofs.Common.{◌∙◌, []}
-use Rattle.std.proofs.lemmas.Result.{err_from_is_err_and}
 use Rattle.ascii_grid.proofs.Feeding.{whole_refusal}
+use Rattle.ascii_grid.proofs.Exits.{err_is}
 use Rattle.ascii_grid.proofs.read.read_text.Goals as goal
 
 pub returns-in_err-feed-clause-fault : goal.returns-in_err-feed-clause-fault
 returns-in_err-feed-clause-fault c =
-    let p = err_from_is_err_and c.from_residual.result c.from_residual.ensures.1 in
-    rw (p.1, p.2) (rw c.new-reader.ensures.scale at (whole_refusal _ c.args.bytes.now _
-    (c.in_err-feed.ensures.err [] c.new-reader.ensures.taken)))
+    rw (err_is c.from_residual.ensures.1) (rw c.new-reader.ensures.scale at
+    (whole_refusal _ c.args.bytes.now _ (c.in_err-feed.ensures.err [] c.new-reader.ensures.taken)))
 
 pub returns-clause-grid : goal.returns-clause-grid
 returns-clause-grid c =
-    let scale = c.in_ok-feed.ensures.scale ∙ c.new-reader.ensures.scale in
-    rw scale at (c.finish.ensures.grid c.args.bytes.now
-    (c.in_ok-feed.ensures.taken [] c.new-reader.ensures.taken))
+    rw (c.in_ok-feed.ensures.scale ∙ c.new-reader.ensures.scale) at
+    (c.finish.ensures.grid c.args.bytes.now (c.in_ok-feed.ensures.taken [] c.new-reader.ensures.taken))
 
 pub returns-clause-fault : goal.returns-clause-fault
 returns-clause-fault c =
-    let scale = c.in_ok-feed.ensures.scale ∙ c.new-reader.ensures.scale in
-    rw scale at (c.finish.ensures.fault c.args.bytes.now
-    (c.in_ok-feed.ensures.taken [] c.new-reader.ensures.taken))
+    rw (c.in_ok-feed.ensures.scale ∙ c.new-reader.ensures.scale) at
+    (c.finish.ensures.fault c.args.bytes.now (c.in_ok-feed.ensures.taken [] c.new-reader.ensures.taken))

@@ -1,4 +1,3 @@
-use Rattle.std.proofs.Common.{refl}
 use Rattle.ascii_grid.proofs.write.header_page.Goals as goal
 
 pub returns : goal.returns
@@ -18,4 +17,4 @@ returns c = rw (
   c.yll.ensures.word,
   c.as_bytes.ensures.value,
   c.cellsize.ensures,
-) refl
+)

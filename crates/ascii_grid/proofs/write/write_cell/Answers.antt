@@ -1,11 +1,8 @@
-use Rattle.std.proofs.Common.{refl, [], ◌∷◌, ◌++◌}
-use Rattle.std.proofs.lemmas.Result.{err_from_is_err_and}
+use Rattle.std.proofs.Common.{refl}
 use Rattle.ascii_grid.proofs.Writing.{WritesByPage-failed}
+use Rattle.ascii_grid.proofs.Exits.{err_is}
 use Rattle.ascii_grid.proofs.write.write_cell.Goals as goal
 
 pub returns-in_err-make_room : goal.returns-in_err-make_room
 returns-in_err-make_room g c =
-    let p = err_from_is_err_and c.from_residual.result c.from_residual.ensures.1 in
-    rw (p.1, p.2) (WritesByPage-failed _ c.args.out.now c.make_room.new.out c.args.page.now
-    c.make_room.new.page c.make_room.new.page (g.E.MapCell.text c.args.scale c.args.nodata.now
-    c.args.cell ++ c.args.end ∷ []) [] _ _ refl c.in_err-make_room.ensures.text)
+    rw (err_is c.from_residual.ensures.1) (WritesByPage-failed _ _ _ _ _ _ _ _ _ _ refl c.in_err-make_room.ensures.text)

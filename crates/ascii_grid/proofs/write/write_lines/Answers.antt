@@ -1,24 +1,21 @@
-use Rattle.std.proofs.lemmas.Result.{err_from_is_err_and}
 use Rattle.std.proofs.Common.{refl}
 use Rattle.std.proofs.lemmas.List.{append-nil}
 use Rattle.ascii_grid.proofs.Writing.{then, failed}
+use Rattle.ascii_grid.proofs.Exits.{err_is}
 use Rattle.ascii_grid.proofs.write.write_lines.Goals as goal
 
 pub returns-in_err-write_all : goal.returns-in_err-write_all
 returns-in_err-write_all g c =
-    let p = err_from_is_err_and c.from_residual.result c.from_residual.ensures.1 in
-    rw (p.1, p.2) (failed _ _ _ _ _ _ _ refl
-    (rw (c.as_bytes.ensures, c.header_page.ensures) at c.in_err-write_all.ensures))
+    rw (err_is c.from_residual.ensures.1)
+    (failed _ _ _ _ _ _ _ refl (rw (c.as_bytes.ensures, c.header_page.ensures) at c.in_err-write_all.ensures))
 
 pub returns-in_err-write_texts : goal.returns-in_err-write_texts
 returns-in_err-write_texts g c =
-    let p = err_from_is_err_and c.from_residual-in_err-write_texts.result
-    c.from_residual-in_err-write_texts.ensures.1 in
-    rw (p.1, p.2) (then _ _ _ _ _ _ _ _ (rw (c.as_bytes.ensures, c.header_page.ensures)
-    at c.in_ok-write_all.ensures) c.in_err-write_texts.ensures)
+    rw (err_is c.from_residual-in_err-write_texts.ensures.1) (then _ _ _ _ _ _ _ _
+    (rw (c.as_bytes.ensures, c.header_page.ensures) at c.in_ok-write_all.ensures) c.in_err-write_texts.ensures)
 
 pub returns : goal.returns
 returns g c =
-    let lines = then _ _ _ _ _ _ _ _ (rw (c.as_bytes.ensures, c.header_page.ensures)
-    at c.in_ok-write_all.ensures) c.in_ok-write_texts.ensures in
-    rw append-nil at (then _ _ _ _ _ _ _ _ lines c.flush.ensures)
+    rw append-nil at (then _ _ _ _ _ _ _ _ (then _ _ _ _ _ _ _ _
+    (rw (c.as_bytes.ensures, c.header_page.ensures) at c.in_ok-write_all.ensures) c.in_ok-write_texts.ensures)
+    c.flush.ensures)

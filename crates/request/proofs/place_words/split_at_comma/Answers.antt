@@ -5,7 +5,7 @@ use Rattle.request.proofs.place_words.split_at_comma.Goals as goal
 
 pub returns-in_err-at-clause-none : goal.returns-in_err-at-clause-none
 returns-in_err-at-clause-none c = rw c.from_residual.ensures
-    (split_none c.args.bytes.now (sym c.comma_at.ensures ∙ c.in_err-at.was))
+    (split_none _ (sym c.comma_at.ensures ∙ c.in_err-at.was))
 
 pub returns-clause-some : goal.returns-clause-some
 returns-clause-some c =

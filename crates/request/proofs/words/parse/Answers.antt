@@ -6,5 +6,5 @@ use Rattle.request.proofs.words.parse.Goals as goal
 pub returns-else-is_empty-clause-fault : goal.returns-else-is_empty-clause-fault
 returns-else-is_empty-clause-fault c =
     subst (λ words. IfErr c.requested_options-else-is_empty.result (IsFaultOf words))
-    (sym (words_given_some c.args.words.now (sym c.if-is_empty.ensures)))
+    (sym (words_given_some _ (sym c.if-is_empty.ensures)))
     c.requested_options-else-is_empty.ensures.fault

@@ -39,9 +39,9 @@ returns-in_err-maps-clause-none c =
 pub returns-clause-some : goal.returns-clause-some
 returns-clause-some c =
     let found = found_of c.args.found.now in
-    let gauge_words = given_words found (codes "gauges") _ _ _ c.unwrap_or-gauge_words.ensures refl
+    let gauge_words = given_words found _ _ _ _ c.unwrap_or-gauge_words.ensures refl
     c.get_strs.ensures in
-    let map_words = given_words found (codes "maps") _ _ _ c.unwrap_or-map_words.ensures refl
+    let map_words = given_words found _ _ _ _ c.unwrap_or-map_words.ensures refl
     c.get_strs-2.ensures in (
       refl,
       rw gauge_words at c.in_ok-gauges.ensures.some,

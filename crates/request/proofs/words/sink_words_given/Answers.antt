@@ -7,8 +7,8 @@ use Rattle.request.proofs.words.sink_words_given.Goals as goal
 pub returns : goal.returns
 returns c =
     let found = found_of c.args.found.now in
-    let words = given_words found (codes "sinks") _ _ _ c.unwrap_or.ensures refl c.get_strs.ensures in
-    let options = given_words found (codes "sink") _ _ _ c.unwrap_or-2.ensures refl
+    let words = given_words found _ _ _ _ c.unwrap_or.ensures refl c.get_strs.ensures in
+    let options = given_words found _ _ _ _ c.unwrap_or-2.ensures refl
     c.get_strs-2.ensures in
     rw (
       c.in_ok-extend_from_slice-2.ensures.items,
@@ -17,4 +17,4 @@ returns c =
       map-append,
       words,
       options,
-    ) refl
+    )

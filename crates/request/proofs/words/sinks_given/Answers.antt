@@ -9,16 +9,12 @@ use Rattle.request.proofs.words.sinks_given.Goals as goal
 same : (c : goal.After-drop-words) → map (λ w. w.now) c.deref.result.now
     ≡ sink_words c.args.name.now (rows_of (found_of c.args.found.now))
 same c =
-    let other : is_of_sight c.args.name.now ≡ false = sym c.is_of_sight.ensures
+    let other = sym c.is_of_sight.ensures
     ∙ c.if-is_of_sight.false in
     rw c.deref.ensures.value c.in_ok-words.ensures ∙ sym (cond-false _ _ _ other)
 
 pub returns-clause-some : goal.returns-clause-some
-returns-clause-some c = subst (λ (words : List Text).
-    IfOk c.sinks_of.result (λ v. Spell place_of_word words v.items))
-    (same c) c.sinks_of.ensures.some
+returns-clause-some c = rw (same c) at c.sinks_of.ensures.some
 
 pub returns-clause-none : goal.returns-clause-none
-returns-clause-none c = subst (λ (words : List Text). IfErr c.sinks_of.result
-    (IsFaultWith (λ _. ⊥) (λ _. ⊥) (IsFirstBad place_of_word words) (λ _. ⊥) ⊥))
-    (same c) c.sinks_of.ensures.none
+returns-clause-none c = rw (same c) at c.sinks_of.ensures.none

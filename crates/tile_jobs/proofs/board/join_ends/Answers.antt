@@ -1,4 +1,4 @@
-use Rattle.std.proofs.Common.{rules, arith, sym, ap, ◌≡◌, ◌≢◌, ℕ, ◌<◌, ◌≤◌, ◌==◌, cond, length, drop, get_or, ◌∙◌, true, vec_len, set, below_more, eq-eqb}
+use Rattle.std.proofs.Common.{rules, arith, sym, ap, ◌≡◌, ◌≢◌, ◌<◌, ◌≤◌, ◌==◌, cond, length, drop, get_or, ◌∙◌, vec_len, below_more, eq-eqb}
 use Rattle.std.proofs.lemmas.Grind.{common_steps}
 use Rattle.tile_jobs.specs.Board.{times}
 use Rattle.tile_jobs.specs.Sums.{sum_below}
@@ -12,15 +12,14 @@ use Rattle.tile_jobs.proofs.board.join_ends.Goals.{then-s-v, else-s-v}
 
 pub remove-other-requires : goal.remove-other-requires
 remove-other-requires c =
-    let far : c.loop-s.s ≢ c.args.v = c.if-s-v.true in
-    let at : c.index_mut.result.now ≡ get_or c.loop-s.rows.items c.loop-s.s c.index_mut.result.now =
+    let far = c.if-s-v.true in
+    let at =
     c.index_mut.ensures.value in
     let same = c.loop-s.invariant.kept c.loop-s.s c.index_mut.result.now (omega arith)
     (grind (arith, common_steps)) in
     let some = (c.requires.ids c.loop-s.s c.index_mut.result.now c.args.own
     (grind (arith, common_steps)) far).0 in
-    let items : c.index_mut.result.now.items
-    ≡ (get_or c.args.rows.now.items c.loop-s.s c.index_mut.result.now).items = ap (λ v. v.items) at
+    let items = ap (λ v. v.items) at
     ∙ same in
     let size : vec_len c.index_mut.result.now ≡ length c.index_mut.result.now.items =
     search rules in
@@ -53,10 +52,6 @@ loop-s-preserved c =
           let some = (c.requires.ids s d e (omega arith) far).0 in
           w.remove-other.ensures.value ∙ ap (λ l. get_or l 0 other) (same d)
           ∙ get_or_default (get_or was s d).items 0 other e some in
-          let D : ℕ → Type 0 = λ i. (d : _) → (get_or (set rows s row) i d).items
-          ≡ cond (i == v) (get_or was i d).items (drop 1 (get_or was i d).items) in
-          let M : ℕ → Type 0 = λ i. (d : _) (e : EndState) → i ≢ v →
-          (get_or (get_or was i d).items 0 e).marked ≡ true → 0 < n.marks in
           let grew : c.loop-s.closing.marks ≤ n.marks = t.7 in
           rw (w.closing-is, w.rows-is) (record {
             len = inv.len;
@@ -66,10 +61,10 @@ loop-s-preserved c =
             deque = t.3 ∙ inv.deque;
             took = t.4 ∙ inv.took;
             back = rw t.6 (back_else v s c.loop-s.closing.back far inv.back);
-            done = λ i d l. below_more D s (λ i l d.
-                rw (get_or-set_other rows s i row d (λ e. absurd (omega arith))) (inv.done i d l))
+            done = below_more _ s (λ i l d.
+                rw (get_or-set_other rows s i row d (λ e. absurd (omega arith))) (inv.done i l d))
                 (λ d. rw (get_or-set_same rows s row d (omega arith), ne_eqb s v far)
-                (ap (λ r. r) w.remove-other.ensures.items ∙ ap (drop 1) (same d))) i l d;
+                (w.remove-other.ensures.items ∙ ap (drop 1) (same d)));
             kept = λ i d l m. rw (get_or-set_other rows s i row d (λ e. absurd (omega arith)))
                 (inv.kept i d (omega arith) (omega arith));
             counts = λ y f each.
@@ -80,17 +75,12 @@ loop-s-preserved c =
                 let k = sum_else s v f far in
                 omega arith;
             own_mark = λ m. let k = inv.own_mark m in omega arith;
-            marks = λ i d e l f m.
-                below_more M s (λ i l d e f m. let k = inv.marks i d e l f m in omega arith)
-                (λ d e f m. t.8 (ap (λ (q : EndState). q.marked) (other_is d e) ∙ m)) i l d e f m;
+            marks = below_more _ s (λ i l d e f m. let k = inv.marks i l d e f m in omega arith)
+                (λ d e f m. t.8 (ap (λ (q : EndState). q.marked) (other_is d e) ∙ m));
             flag = λ m. let k = inv.flag (sym t.9 ∙ m) in omega arith;
           })
       | else-s-v w ↦
           let here : s ≡ v = grind (arith, common_steps) in
-          let D : ℕ → Type 0 = λ i. (d : _) → (get_or rows i d).items
-          ≡ cond (i == v) (get_or was i d).items (drop 1 (get_or was i d).items) in
-          let M : ℕ → Type 0 = λ i. (d : _) (e : EndState) → i ≢ v →
-          (get_or (get_or was i d).items 0 e).marked ≡ true → 0 < c.loop-s.closing.marks in
           rw (w.closing-is, w.rows-is) (record {
             len = inv.len;
             id = inv.id;
@@ -99,18 +89,16 @@ loop-s-preserved c =
             deque = inv.deque;
             took = inv.took;
             back = back_here v s c.loop-s.closing.back here inv.back;
-            done = λ i d l. below_more D s (λ i l d. inv.done i d l) (λ d.
-                rw (eq-eqb s v here) (inv.kept s d (omega arith) (omega arith))) i l d;
+            done = below_more _ s inv.done
+                (λ d. rw (eq-eqb s v here) (inv.kept s d (omega arith) (omega arith)));
             kept = λ i d l m. inv.kept i d (omega arith) m;
             counts = λ y f each. inv.counts y f each ∙ sym (sum_here s v f here);
             own_mark = inv.own_mark;
-            marks = λ i d e l f m. below_more M s (λ i l d e f m. inv.marks i d e l f m) (λ d e f m.
-                absurd (f here)) i l d e f m;
+            marks = below_more _ s inv.marks (λ d e f m. absurd (f here));
             flag = inv.flag;
           })
     ]
 
 pub returns-clause-times : goal.returns-clause-times
-returns-clause-times c = λ y f each. let end : c.loop-s.s ≡ vec_len c.args.rows.now =
-    grind (arith, common_steps) in c.loop-s.invariant.counts y f each
-    ∙ ap (λ n. sum_below (λ i. cond (i == c.args.v) 0 (f i)) n) end
+returns-clause-times c = λ y f each. c.loop-s.invariant.counts y f each
+    ∙ ap (sum_below (λ i. cond (i == c.args.v) 0 (f i))) (grind arith)

@@ -11,12 +11,12 @@ loop-seat-preserved c =
     let all = c.args.seats.items in
     let n = vec_len c.loop-seat.owns in
     let inv = c.loop-seat.invariant in
-    let seat : SeatState = c.in-Some.seat in
+    let seat = c.in-Some.seat in
     let held : seat ∷ into_iter_items c.next.new.self ≡ drop n all = grind (arith, common_steps) in
     let at : (d : SeatState) → seat ≡ get_or all n d = λ d. get_drop all n seat d _ held in
     let parts = c.into_parts-own.ensures.parts in
     let r = c.into_parts-own.result in
-    let len : vec_len c.put.new.list ≡ suc n = c.put.ensures.len in
+    let len = c.put.ensures.len in
     let s1 : length c.loop-seat.owns.items ≡ n = search rules in
     let s2 : length c.loop-seat.rows.items ≡ n = (let q : length c.loop-seat.rows.items
     ≡ vec_len c.loop-seat.rows = search rules in q ∙ inv.same.0) in
@@ -37,17 +37,17 @@ loop-seat-preserved c =
       );
       seats = λ s d low. below_more (λ j. IsSeat (get_or all j d)) n (λ j l. inv.seats j d l)
           (subst IsSeat (at d) c.into_parts-own.ensures.seat) s (omega (arith, len));
-      owns = λ s d o low. rw c.put.ensures.items (get_snoc O c.loop-seat.owns.items r.0 (λ j x l e.
-          inv.owns j e x (omega (arith, s1))) (λ e. rw s1 (sym (ap (λ (x : SeatState). x.own) parts)
-          ∙ ap (λ (x : SeatState). x.own) (at e))) s o (omega (arith, s1, len)) d);
+      owns = λ s d o low. rw c.put.ensures.items (get_snoc O _ _ (λ j x l e.
+          inv.owns j e x (omega (arith, s1))) (λ e. rw s1 (sym (ap (λ x. x.own) parts)
+          ∙ ap (λ x. x.own) (at e))) s o (omega (arith, s1, len)) d);
       rows = λ s d o low. rw c.put-in-loop-seat.ensures.items
           (get_snoc (λ j x. (d : SeatState) → x.items ≡ (get_or all j d).others)
-          c.loop-seat.rows.items r.1 (λ j x l e. inv.rows j e x (omega (arith, s2)))
-          (λ e. rw s2 (sym (ap (λ (x : SeatState). x.others) parts)
-          ∙ ap (λ (x : SeatState). x.others) (at e))) s o (omega (arith, s2, len)) d);
+          _ _ (λ j x l e. inv.rows j e x (omega (arith, s2)))
+          (λ e. rw s2 (sym (ap (λ x. x.others) parts)
+          ∙ ap (λ x. x.others) (at e))) s o (omega (arith, s2, len)) d);
       taken = λ s d o low. rw c.put-in-loop-seat-2.ensures.items
           (get_snoc (λ j x. (d : SeatState) → x.items ≡ (get_or all j d).taken)
-          c.loop-seat.taken.items r.2 (λ j x l e. inv.taken j e x (omega (arith, s3)))
-          (λ e. rw s3 (sym (ap (λ (x : SeatState). x.taken) parts)
-          ∙ ap (λ (x : SeatState). x.taken) (at e))) s o (omega (arith, s3, len)) d);
+          _ _ (λ j x l e. inv.taken j e x (omega (arith, s3)))
+          (λ e. rw s3 (sym (ap (λ x. x.taken) parts)
+          ∙ ap (λ x. x.taken) (at e))) s o (omega (arith, s3, len)) d);
     }

@@ -10,14 +10,14 @@ pub new-requires-clause-seat : goal.new-requires-clause-seat
 new-requires-clause-seat c =
     let all = c.args.ends.owns.items in
     let n = c.loop-own.number in
-    let own : EndState = c.in-Some.own in
+    let own = c.in-Some.own in
     let seats = vec_len c.args.ends.owns in
     let size : length all ≡ seats = grind (arith, common_steps) in
     let low : n < seats = grind (arith, common_steps) in
     let was = c.loop-own.invariant.rows 0 c.remove-others.result in
     let row : c.remove-others.result.items ≡ without n all = grind (arith, common_steps, was) in
     let own_is : own ≡ get_or all n own = grind (arith, common_steps) in
-    rw row (fresh_seat c.args.jobs seats n all own c.requires.owns size low own_is)
+    rw row (fresh_seat _ seats n all own c.requires.owns size low own_is)
 
 pub loop-own-preserved : goal.loop-own-preserved
 loop-own-preserved c =

@@ -1,4 +1,4 @@
-use Rattle.std.proofs.Common.{rules, arith, ap, List, subst, ◌≡◌, suc, [], ◌∷◌, ◌++◌, length, drop, get_or, ◌∙◌, vec_len}
+use Rattle.std.proofs.Common.{rules, arith, ap, subst, ◌≡◌, suc, [], ◌∷◌, ◌++◌, length, drop, get_or, ◌∙◌, vec_len}
 use Rattle.std.proofs.lemmas.Grind.{common_steps}
 use Rattle.std.specs.Vec.Iter.{into_iter_items}
 use Rattle.tile_jobs.specs.Ends.{SeatState}
@@ -12,8 +12,8 @@ loop-seat-preserved g c =
     let all = c.args.seats.items in
     let n = vec_len c.loop-seat.results in
     let inv = c.loop-seat.invariant in
-    let seat : SeatState = c.in-Some.seat in
-    let rest : List SeatState = into_iter_items c.next.new.self in
+    let seat = c.in-Some.seat in
+    let rest = into_iter_items c.next.new.self in
     let held : seat ∷ rest ≡ drop n all = grind (arith, common_steps) in
     let was = c.loop-seat.results.items in
     let out = c.work_seat.result in
@@ -35,7 +35,7 @@ returns-clause-outcomes g c =
     let all = c.args.seats.items in
     let inv = c.loop-seat.invariant in
     let size : length c.loop-seat.results.items ≡ vec_len c.loop-seat.results = search rules in
-    let whole : vec_len c.loop-seat.results ≡ length all = grind (arith, common_steps) in
+    let whole : vec_len c.loop-seat.results ≡ length all = grind arith in
     record {
       count = size ∙ whole;
       each = λ s d r low. inv.each s r d (omega arith);

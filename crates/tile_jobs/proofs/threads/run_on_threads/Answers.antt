@@ -1,4 +1,4 @@
-use Rattle.std.proofs.Common.{rules, arith, ap, List, ◌≡◌, suc, [], ◌∷◌, ◌++◌, length, drop, get_or, ◌∙◌, vec_len}
+use Rattle.std.proofs.Common.{rules, arith, ap, ◌≡◌, ◌∷◌, length, drop, get_or, ◌∙◌, vec_len}
 use Rattle.std.proofs.lemmas.Grind.{common_steps}
 use Rattle.std.specs.Vec.Iter.{into_iter_items}
 use Rattle.tile_jobs.specs.Ends.{SeatState}
@@ -11,14 +11,14 @@ loop-seat-preserved g c =
     let all = c.args.seats.items in
     let n = vec_len c.loop-seat.children in
     let inv = c.loop-seat.invariant in
-    let seat : SeatState = c.in-Some.seat in
-    let rest : List SeatState = into_iter_items c.next.new.self in
+    let seat = c.in-Some.seat in
+    let rest = into_iter_items c.next.new.self in
     let held : seat ∷ rest ≡ drop n all = grind (arith, common_steps) in
     let was = c.loop-seat.children.items in
     let child = c.in-Ok.child in
-    let items : c.put.new.list.items ≡ was ++ child ∷ [] = c.put.ensures.items in
+    let items = c.put.ensures.items in
     let size : length was ≡ n = search rules in
-    let len : vec_len c.put.new.list ≡ suc n = c.put.ensures.len in
+    let len = c.put.ensures.len in
     let same_work : child.promise.work.now ≡ c.args.work.now = grind (arith, common_steps) in
     let same_seat : child.promise.seat.value ≡ seat = grind (arith, common_steps) in
     record {

@@ -30,11 +30,11 @@ loop-preserved-in-Continue-branch-2 g c =
 
 pub loop-preserved : goal.loop-preserved
 loop-preserved g c =
-    let s0 : SeatState = c.args.seat in
-    let s : SeatState = c.loop.seat in
-    let t : SeatState = c.try_take.new.self in
+    let s0 = c.args.seat in
+    let s = c.loop.seat in
+    let t = c.try_take.new.self in
     let inv = c.loop.invariant in
-    let taken : t.taken ≡ s.taken = c.in-Again.ensures.took.taken in
+    let taken = c.in-Again.ensures.took.taken in
     record {
       same = seat_trans s0 s t inv.same c.in-Again.ensures.same;
       right = inv.right;
@@ -43,15 +43,15 @@ loop-preserved g c =
 
 pub returns : goal.returns
 returns g c =
-    let s0 : SeatState = c.args.seat in
-    let s : SeatState = c.loop.seat in
+    let s0 = c.args.seat in
+    let s = c.loop.seat in
     let inv = c.loop.invariant in
     elim c.match-next.branch [
       | in-None w ↦ absurd (search rules)
       | in-Some+in-Empty w ↦
-          let t : SeatState = w.try_take.new.self in
+          let t = w.try_take.new.self in
           let took = w.in-Empty.ensures.took in
-          let taken : t.taken ≡ s.taken = took.taken in
+          let taken = took.taken in
           rw w.seat-is (
             record {
               same = seat_trans s0 s t inv.same w.in-Empty.ensures.same;

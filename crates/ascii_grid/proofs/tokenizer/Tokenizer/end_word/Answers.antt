@@ -9,10 +9,8 @@ returns-then-is_empty-clause-words c = λ text h.
     let none : c.args.self.now.word ≡ [] = search rules in
     (none, ended_none _ text h none)
 
-pub returns-then-word-gt-MOST_WORD_BYTES-clause-words :
-    goal.returns-then-word-gt-MOST_WORD_BYTES-clause-words
-returns-then-word-gt-MOST_WORD_BYTES-clause-words c = λ text h.
-    ended_long _ text h (search rules)
+pub returns-then-word-gt-MOST_WORD_BYTES-clause-words : goal.returns-then-word-gt-MOST_WORD_BYTES-clause-words
+returns-then-word-gt-MOST_WORD_BYTES-clause-words c = λ text h. ended_long _ text h (search rules)
 
 pub returns-in_err-add_word-clause-words : goal.returns-in_err-add_word-clause-words
 returns-in_err-add_word-clause-words c = λ text h.

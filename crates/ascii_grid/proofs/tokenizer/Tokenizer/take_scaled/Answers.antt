@@ -29,12 +29,10 @@ loop-at-preserved c =
         scale = ap (λ (k : GridBuilder). k.scale) kept ∙ before.scale;
         further = omega (arith, before.further);
         within = omega (arith, inside);
-        words = λ text h. plain_word self c.add_cell.new.self text bytes _ at c.in-Some.len _
-            c.in-Some.value (before.words text h) between (take_rest bytes at) plain inside
-            refl (sym c.is_separator.ensures ∙ c.if-not-is_separator.false) kept
-            (λ ps hs w k short e. c.in-Ok.ensures.word ps hs w k short
-            (c.value_cell-meaning.ensures self.builder.scale self.builder.nodata w
-            (e ∙ ap Some (sym (to_z-of_z w64 c.in-Some.value fits))) k.value));
+        words = λ text h. plain_word self text bytes _ at c.in-Some.len _ (before.words text h) between
+            (take_rest bytes at) plain inside refl (sym c.is_separator.ensures ∙ c.if-not-is_separator.false) kept
+            (λ ps hs w k short e. c.in-Ok.ensures.word ps hs w k short (c.value_cell-meaning.ensures self.builder.scale
+            self.builder.nodata w (e ∙ ap Some (sym (to_z-of_z w64 c.in-Some.value fits))) k.value));
       };
       between = (ap (λ (k : GridBuilder). k.expected) kept ∙ between.0, between.1);
     }

@@ -16,10 +16,10 @@ invariant_of-result g c =
     let S = g.D.DequeKey.seats in
     let V = g.D.DequeKey.deque in
     let n = worker_index c.push_marks.new.worker in
-    let seats : S ≡ c.args.seats = c.requires.place.1 in
-    let size : n ≡ length (deal J S V) + S =
+    let seats = c.requires.place.1 in
+    let size =
     subst (λ m. n ≡ length (deal J m V) + m) (sym seats) c.push_marks.ensures.index in
-    let view : worker_view c.push_marks.new.worker ≡ dealing J S V n = subst (λ m.
+    let view = subst (λ m.
     worker_view c.push_marks.new.worker ≡ dealing J m V n) (sym seats) c.push_marks.ensures.view in
     let some_entry : 0 < n = omega (arith, size, seats, c.requires.seat) in
     let all = feed_length J S V in
