@@ -70,7 +70,7 @@ same_gauge gauges p q a b same =
 
 pub some_number : (gauges : List Place) (p : Place) → list_any (is_place p) gauges ≡ true →
     0 < gauge_number gauges p
-some_number gauges p a = let u = position_of (is_place p) 1 gauges a in
+some_number gauges p a = let u = position_of _ 1 gauges a in
     omega (arith, ap or_zero u.found)
 
 -- A gauge g on a data cell, through which no other gauge drains.
@@ -85,8 +85,8 @@ module _ {d : Directed} (s : IsEnding d) (gauges : List Place) {g : Place} (is :
       catchment d gauges q ≡ gauge_number gauges g
   first_is q coded through =
       let r = drains_from s q g through in
-      let m = reached_early s coded r.0 r.1 in
-      let there : is_gauge (follow d q m.0) ≡ true = ap is_gauge m.3 ∙ named in
+      let m = reached_early s coded _ r.1 in
+      let there = ap is_gauge m.3 ∙ named in
       elim (cases_first is_gauge (follow d q) (moves d)) [
         | inr w ↦ absurd (false≢true (sym (w.fails m.0 m.1) ∙ there))
         | inl w ↦ elim (cases_place (follow d q w.at) g) [
@@ -96,10 +96,10 @@ module _ {d : Directed} (s : IsEnding d) (gauges : List Place) {g : Place} (is :
             | inl early ↦ absurd (false≢true (sym (w.before m.0 early) ∙ there))
             | inr late ↦
                 let on : w.at + (m.0 - w.at) ≡ m.0 = omega (arith, late) in
-                let reaches = follow_more d q w.at (m.0 - w.at) ∙ ap (follow d q) on ∙ m.3 in
-                absurd (false≢true (sym (alone (follow d q w.at) w.passes apart)
-                ∙ drains_at s (coded_along s.ends coded w.at)
-                (m.0 - w.at) reaches))
+                let reaches = follow_more d q _ _ ∙ ap (follow d q) on ∙ m.3 in
+                absurd (false≢true (sym (alone _ w.passes apart)
+                ∙ drains_at s (coded_along s.ends coded _)
+                _ reaches))
           ]
         ]
       ]
@@ -113,9 +113,9 @@ module _ {d : Directed} (s : IsEnding d) (gauges : List Place) {g : Place} (is :
       some_number gauges g named,
       ap (λ (o : Option Place). option_map_or (gauge_number gauges) o 0) w.found,
     ))
-    | inl w ↦ drains_at s coded w.at
-        (same_gauge gauges (follow d q w.at) g w.passes named
-        (sym (ap (λ (o : Option Place). option_map_or (gauge_number gauges) o 0) w.found) ∙ same))
+    | inl w ↦ drains_at s coded _
+        (same_gauge gauges _ g w.passes named
+        (cc))
   ]
 
   caught_same : (q : Place) → IsCoded d q →
@@ -128,24 +128,25 @@ module _ {d : Directed} (s : IsEnding d) (gauges : List Place) {g : Place} (is :
   pub caught_count : count_by (λ q. is_some (code_at d q) && catchment d gauges q
       == gauge_number gauges g) (places d.cols d.rows) ≡ accumulation d g + 1
   caught_count =
-      sum_of_cells (λ q. counted d (catchment d gauges q == gauge_number gauges g) q) d.cols d.rows
+      sum_of_cells (λ q. counted d _ q) _ _
       ∙ one_more s (λ q.
       counted d (catchment d gauges q == gauge_number gauges g) q)
       (λ q.
-      cond {A = ℕ} (is_some (code_at d q) && not (is_place g q) && drains_through d g q) 1 0) is
+      cond (is_some (code_at d q) && not (is_place g q) && drains_through d g q) 1 0) is
       (λ q ne. elim (cases_coded d q) [
         | inl none ↦
-            let off : is_some (code_at d q) ≡ false = ap is_some none in
+            let off = ap is_some none in
             cond-false {A = ℕ} _ 1 0 (and_left _ _ off)
-            ∙ sym (cond-false {A = ℕ} _ 1 0 (and_left _ _ (and_left _ _ off)))
+            ∙ sym (cond-false _ 1 0 (and_left _ _ (and_left _ _ off)))
         | inr coded ↦
-            ap (λ b. counted d b q) (caught_same q coded)
-            ∙ ap (λ x. cond {A = ℕ} (x && drains_through d g q) 1 0)
-            (sym (and_on (is_some (code_at d q))
-            (not_from_false _ (other_test s g q ne))))
+            cc (
+              caught_same q coded,
+              and_on (is_some (code_at d q))
+                  (not_from_false _ (other_test s g q ne)),
+            )
       ])
       (counted_on is (caught_same g is ∙ drains_itself s g))
-      (cond-false {A = ℕ} _ 1 0
+      (cond-false _ 1 0
       (and_left _ _ (and_right _ _ (not_from_true _ (is_place_from g g refl)))))
 
 -- Gauge g is appended to the gauges. It is not on the flow path of p.
@@ -161,44 +162,32 @@ module _ (d : Directed) (gauges : List Place) (g p : Place)
   apart k below = elim (cases_Bool (is_place (follow d p k) g)) [
     | inr f ↦ f
     | inl t ↦ absurd (false≢true (sym past ∙ any_in_range (λ k. is_place g (follow d p k))
-        (moves d) k below (is_place_from g (follow d p k) (sym (place_is (follow d p k) g t)))))
+        _ k below (is_place_from g _ (sym (place_is _ g t)))))
   ]
 
   same_test : (k : ℕ) → k < moves d → is_new (follow d p k) ≡ is_old (follow d p k)
   same_test k below =
-      list_any-append (is_place (follow d p k)) gauges (g ∷ [])
-      ∙ ap (λ b. is_old (follow d p k) || (b || false)) (apart k below)
-      ∙ or_none (is_old (follow d p k))
+      cc (list_any-append (is_place (follow d p k)) gauges (g ∷ []), apart k below, or_none (is_old (follow d p k)))
 
   found_same : (n : ℕ) → n ≤ moves d → find is_new (map (follow d p) (range_with_len 0 n))
       ≡ find is_old (map (follow d p) (range_with_len 0 n))
   found_same zero le = refl
   found_same (suc n) le =
-      found_next is_new (follow d p) n
-      ∙ ap (λ o. option_or o
-      (cond (is_new (follow d p n)) (Some (follow d p n)) None)) (found_same n (omega arith))
-      ∙ ap (λ b. option_or (find is_old (map (follow d p) (range_with_len 0 n)))
-      (cond b (Some (follow d p n)) None)) (same_test n (omega arith))
-      ∙ sym (found_next is_old (follow d p) n)
+      cc (found_next is_new (follow d p) n, found_same n (omega arith), same_test n (omega arith), found_next is_old (follow d p) n)
 
   kept_number : (q : Place) → is_old q ≡ true →
       gauge_number (gauges ++ g ∷ []) q ≡ gauge_number gauges q
   kept_number q old =
-      let u = position_of (is_place q) 1 gauges old in
-      ap or_zero (position_push (is_place q) 1 gauges g
-      ∙ ap (λ (o : Option ℕ).
-      option_or o (cond (is_place q g) (Some (1 + length gauges)) None)) u.found ∙ sym u.found)
+      let u = position_of _ 1 gauges old in
+      cc (position_push (is_place q) 1 gauges g)
 
   pub catchment_kept : catchment d (gauges ++ g ∷ []) p ≡ catchment d gauges p
   catchment_kept =
-      ap (λ (o : Option Place). option_map_or (gauge_number (gauges ++ g ∷ [])) o 0)
+      ap (λ o. option_map_or (gauge_number (gauges ++ g ∷ [])) o 0)
       (found_same (moves d) (omega arith))
       ∙ elim (cases_first is_old (follow d p) (moves d)) [
         | inl w ↦
-            ap (λ (o : Option Place). option_map_or (gauge_number (gauges ++ g ∷ [])) o 0) w.found
-            ∙ kept_number (follow d p w.at) w.passes
-            ∙ sym (ap (λ (o : Option Place). option_map_or (gauge_number gauges) o 0) w.found)
+            cc (kept_number (follow d p w.at) w.passes)
         | inr w ↦
-            ap (λ (o : Option Place). option_map_or (gauge_number (gauges ++ g ∷ [])) o 0) w.found
-            ∙ sym (ap (λ (o : Option Place). option_map_or (gauge_number gauges) o 0) w.found)
+            cc
       ]

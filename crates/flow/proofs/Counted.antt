@@ -28,7 +28,7 @@ use Rattle.flow.proofs.TileTotals.{AreWeights, all_totals}
 use Rattle.flow.proofs.Totals.{total_is, totals_add}
 
 pub weights_size : (cells : List (Option ℕ)) → length (weights_by cells) ≡ length cells
-weights_size cells = length-map cells (λ (code : Option ℕ). cond {A = ℕ} (is_some code) 1 0)
+weights_size cells = length-map cells (λ code. cond (is_some code) 1 0)
 
 -- A map's flows, with counts, and the inflows found from them meet `IsCounting`.
 pub counting_of :
@@ -49,7 +49,7 @@ module _ {t : Cutting} {codes : List (Option ℕ)} {flows : List Flow} {inflows 
     (s : IsCounting t codes flows inflows) where
   ending : IsEnding (directed_on t codes)
   ending =
-      ending_of (directed_on t codes) s.grid.ends s.are_flows.cutting (refl, refl)
+      ending_of _ s.grid.ends s.are_flows.cutting (refl, refl)
 
   module _ (tile : ℕ) (f : Flow) (there : slice_get flows tile ≡ Some f) where
     right : IsTileExits (directed_on t codes) t tile f
@@ -67,7 +67,7 @@ module _ {t : Cutting} {codes : List (Option ℕ)} {flows : List Flow} {inflows 
 
     within_tile : (p : Place) → IsInBounds (bounds_of t tile) p → (p.row < t.rows)
         × (p.col < t.cols)
-    within_tile p h = (omega (arith, h, around.rows_inside), omega (arith, h, around.cols_inside))
+    within_tile p h = (omega (arith, h, around.rows_inside, around.cols_inside))
 
     pub inflow_few : (p : Place) → IsInBounds (bounds_of t tile) p →
         listed_inflow inflows p ≤ 16777216
@@ -110,23 +110,22 @@ module _ {t : Cutting} {codes : List (Option ℕ)} {flows : List Flow} {inflows 
         both_at : (i : ℕ) → i < length links →
             get_or both i 0 ≡ get_or (weights_by f.codes) i 0 + get_or weights i 0
         both_at i h = get_or-map-range_with_len (λ i. get_or (weights_by f.codes) i 0 + get_or weights i 0) 0
-            (length links) i i 0 h (omega arith)
+            _ i i 0 h (omega arith)
 
         weights_are : AreWeights ending piece_of both
         weights_are j h =
             let inside = in_place piece_of j h in
             let index = index_in-place_in (bounds_of t tile) j in
-            let own : get_or (weights_by f.codes) j 0
-            ≡ weight_in (directed_on t codes) (bounds_of t tile) j =
+            let own =
             (weights_from of_cells).each j (omega (arith, h, piece_of.made.size)) in
             omega (
               arith,
               both_at j h,
-              weighed.each (place_in (bounds_of t tile) j) inside,
+              weighed.each _ inside,
               ap (λ n. get_or weights n 0) index,
               own,
-              s.are_inflows.each (place_in (bounds_of t tile) j)
-                  (within_tile (place_in (bounds_of t tile) j) inside),
+              s.are_inflows.each _
+                  (within_tile _ inside),
             )
 
         total_drained : (i : ℕ) → i < length links →
@@ -134,7 +133,7 @@ module _ {t : Cutting} {codes : List (Option ℕ)} {flows : List Flow} {inflows 
             ≡ all_drained (directed_on t codes) (place_in (bounds_of t tile) i)
         total_drained i h = omega (
           arith,
-          totals_add links (weights_by f.codes) weights both streams_of both_at i h,
+          totals_add links _ weights both streams_of both_at i h,
           total_is streams_of (all_totals ending piece_of both weights_are) i h,
         )
 
@@ -145,21 +144,21 @@ module _ {t : Cutting} {codes : List (Option ℕ)} {flows : List Flow} {inflows 
             + get_or added (index_in (bounds_of t tile) p) 0 - 1
             ≡ accumulation (directed_on t codes) p
         count_is counted summed {p = p} h is =
-            let at = place_in-index_in (bounds_of t tile) p h in
+            let at = place_in-index_in _ p h in
             let there : index_in (bounds_of t tile) p < length links =
-            omega (arith, index_in_below (bounds_of t tile) p h, of_cells.size, same_sizes) in
+            omega (arith, index_in_below _ p h, of_cells.size, same_sizes) in
             omega (
               arith,
-              counted.each (index_in (bounds_of t tile) p) there,
-              summed.each (index_in (bounds_of t tile) p) there,
-              total_drained (index_in (bounds_of t tile) p) there,
+              counted.each _ there,
+              summed.each _ there,
+              total_drained _ there,
               ap (all_drained (directed_on t codes)) at,
               accumulation_is ending p is,
             )
 
     countable : IsCountable inflows tile f
     countable =
-        let made : links_by f.bounds f.codes ≡ links_by (bounds_of t tile) f.codes =
+        let made =
         ap (λ b. links_by b f.codes) right.bounds in
         record {
           bounds = right.bounds
@@ -195,16 +194,17 @@ module _ {t : Cutting} {codes : List (Option ℕ)} {flows : List Flow} {inflows 
         (accumulation (directed_on t codes)) p (tile_entry t tile values p)
     entry_counted {values} are p i =
         let h = in_bounds t tile p s.are_flows.cutting i in
-        let made : links_by f.bounds f.codes ≡ links_by (bounds_of t tile) f.codes =
+        let made =
         ap (λ b. links_by b f.codes) right.bounds in
         let weighed = subst (λ x. AreInflowWeights inflows (bounds_of x tile) are.weights)
         s.are_inflows.cutting are.weighed in
         let links = links_by f.bounds f.codes in
-        match_data (code_at (directed_on t codes) p) _ _
-        (tile_entry-in t tile values p i
-        ∙ ap (λ l. get_or l (index_in (bounds_of t tile) p) None) are.made
-        ∙ count_entry (lists made)
-        (λ i. slice_index are.totals i + slice_index are.added i) p h)
+        match_data _ _ _
+        (cc (
+          tile_entry-in t tile values p i,
+          count_entry (lists made)
+              (λ i. slice_index are.totals i + slice_index are.added i) p h,
+        ))
         (λ code is. count_is made weighed are.counted
         are.summed h (record { code = code; is = is }))
 
@@ -219,4 +219,4 @@ pub counts_size : {inflows : Inflows} {tile : ℕ} {f : Flow} {values : List (Op
     AreCounts inflows tile f values → length values ≡ length f.codes
 counts_size {f = f} are =
     ap length are.made ∙ length-map-range_with_len (λ i. where_data (get_or f.codes i None)
-    (get_or are.totals i 0 + get_or are.added i 0 - 1)) 0 (length f.codes)
+    (get_or are.totals i 0 + get_or are.added i 0 - 1)) 0 _

@@ -19,14 +19,14 @@ entry_set_other : (cols rows : ℕ) (xs : List (Option ℕ)) (x : Option ℕ) (p
     g.col < cols → p ≢ g →
     entry_at cols rows (set xs (index_of cols g) x) p ≡ entry_at cols rows xs p
 entry_set_other cols rows xs x p g col apart = elim (cases_lt p.row rows) [
-  | inr below ↦ entry-below cols rows (set xs (index_of cols g) x) p below
+  | inr below ↦ entry-below cols rows _ p below
       ∙ sym (entry-below cols rows xs p below)
   | inl row ↦ elim (cases_lt p.col cols) [
-    | inr beside ↦ entry-beside cols rows (set xs (index_of cols g) x) p beside
+    | inr beside ↦ entry-beside cols rows _ p beside
         ∙ sym (entry-beside cols rows xs p beside)
     | inl inside ↦
-        entry-inside cols rows (set xs (index_of cols g) x) p row inside
-        ∙ get_or-set_other xs (index_of cols g) (index_of cols p) x None (λ e.
+        entry-inside cols rows _ p row inside
+        ∙ get_or-set_other xs _ _ x None (λ e.
         apart (index_injective cols p g inside col e))
         ∙ sym (entry-inside cols rows xs p row inside)
   ]
@@ -80,14 +80,13 @@ pub gauge_inside : (cols rows : ℕ) (codes : List (Option ℕ)) (gauges : List 
     let g = get_or gauges k d in (g.row < rows) × (g.col < cols)
 gauge_inside cols rows codes gauges k d below coded =
     let g = get_or gauges k d in
-    some_inside cols rows codes g (entry_at cols rows codes g) refl
-    (coded g (list_any_at (is_place g) gauges k d below (is_place_from g g refl)))
+    some_inside cols rows codes g _ refl
+    (coded g (list_any_at _ gauges k d below (is_place_from g g refl)))
 
 pub index_at : {cols n : ℕ} (gauges : List Place) (k : ℕ) {i : ℕ} (d e : Place) → k < length gauges →
     n ≡ cols → i ≡ index_of n (get_or gauges k d) → i ≡ index_of cols (get_or gauges k e)
 index_at {cols} gauges k d e below same read =
-    read ∙ ap (λ m. index_of m (get_or gauges k d)) same
-    ∙ ap (index_of cols) (get_or_default gauges k d e below)
+    cc (get_or_default gauges k d e below)
 
 -- If row-order index i has a number by the first k gauges, it has the same number by the first
 -- k + 1. If not, its number by these is k + 1 if gauge k, counted from 0, has index i, else `None`.
@@ -96,7 +95,4 @@ pub number_next : (cols : ℕ) (gauges : List Place) (k i : ℕ) (d : Place) →
     (take k gauges) i) (cond (index_of cols (get_or gauges k d) == i) (Some (k + 1)) None)
 number_next cols gauges k i d below =
     let size : 1 + length (take k gauges) ≡ k + 1 = omega (arith, length-take k gauges, below) in
-    ap (λ l. number_of_index cols l i) (take_more gauges k d below)
-    ∙ position_push (λ (g : Place). index_of cols g == i) 1 (take k gauges) (get_or gauges k d)
-    ∙ ap (λ n. option_or (number_of_index cols (take k gauges) i)
-    (cond (index_of cols (get_or gauges k d) == i) (Some n) None)) size
+    cc (take_more gauges k d below, position_push (λ (g : Place). index_of cols g == i) 1 (take k gauges) (get_or gauges k d))

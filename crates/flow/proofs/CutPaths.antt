@@ -42,8 +42,7 @@ module _ {X : Type 0} (test : X → Bool) (f : ℕ → X) where
   pub found_next : (n : ℕ) → find test (map f (range_with_len 0 (suc n)))
       ≡ option_or (find test (map f (range_with_len 0 n))) (cond (test (f n)) (Some (f n)) None)
   found_next n =
-      ap (λ (k : ℕ). find test (map f (range_with_len 0 k))) (sym (add-one n))
-      ∙ ap (find test) (mapped_next f n) ∙ find-append test (map f (range_with_len 0 n)) (f n ∷ [])
+      cc (add-one n, mapped_next f n, find-append test (map f (range_with_len 0 n)) (f n ∷ []))
 
   pub cases_first : (n : ℕ) → IsFirst test f n ⊎ IsAbsent test f n
   cases_first zero = inr (record { fails = λ j below. absurd (omega (arith, below)); found = refl })
@@ -53,8 +52,7 @@ module _ {X : Type 0} (test : X → Bool) (f : ℕ → X) where
       below = omega (arith, first.below);
       passes = first.passes;
       before = first.before;
-      found = found_next n
-          ∙ ap (λ o. option_or o (cond (test (f n)) (Some (f n)) None)) first.found;
+      found = cc (found_next n);
     })
     | inr absent ↦ elim (cases_Bool (test (f n))) [
       | inl here ↦ inl (record {
@@ -62,8 +60,7 @@ module _ {X : Type 0} (test : X → Bool) (f : ℕ → X) where
         below = omega arith;
         passes = here;
         before = absent.fails;
-        found = found_next n ∙ ap (λ o. option_or o (cond (test (f n))
-            (Some (f n)) None)) absent.found ∙ cond-true (test (f n)) (Some (f n)) None here;
+        found = cc (found_next n, cond-true (test (f n)) (Some (f n)) None here);
       })
       | inr not_here ↦ inr (record {
         fails = λ j below. elim (cases_lt j n) [
@@ -71,8 +68,7 @@ module _ {X : Type 0} (test : X → Bool) (f : ℕ → X) where
           | inr late ↦ (let same : n ≡ j = omega (arith, late, below) in
               rw same at not_here)
         ];
-        found = found_next n ∙ ap (λ o. option_or o (cond (test (f n))
-            (Some (f n)) None)) absent.found ∙ cond-false (test (f n)) (Some (f n)) None not_here;
+        found = cc (found_next n, cond-false (test (f n)) (Some (f n)) None not_here);
       })
     ]
   ]
@@ -108,9 +104,7 @@ pub position_same : {X : Type 0} (p q : X → Bool) (i : ℕ) (xs : List X) → 
     position_from p i xs ≡ position_from q i xs
 position_same p q i [] same = refl
 position_same p q i (x ∷ xs) same =
-    ap (λ b. cond b (Some i) (position_from p (i + 1) xs)) (same 0 x (omega arith))
-    ∙ ap (λ o. cond (q x) (Some i) o)
-    (position_same p q (i + 1) xs (λ k d below. same (suc k) d (omega (arith, below))))
+    cc (same 0 x (omega arith), position_same p q (i + 1) xs (λ k d below. same (suc k) d (omega (arith, below))))
 
 pub position_below : {X : Type 0} (p : X → Bool) (i : ℕ) (xs : List X) →
     unwrap_or (position_from p (suc i) xs) 0 ≤ i + length xs
@@ -119,11 +113,11 @@ position_below p i (x ∷ xs) = elim (cases_Bool (p x)) [
   | inl is ↦ (let e : unwrap_or (position_from p (suc i) (x ∷ xs)) 0 ≡ suc i = ap
       or_zero (cond-true (p x) (Some (suc i)) _ is) in omega (arith, e))
   | inr isnt ↦
-      let e : unwrap_or (position_from p (suc i) (x ∷ xs)) 0 ≡ unwrap_or (position_from p (suc i + 1) xs) 0 =
+      let e =
       ap or_zero (cond-false (p x) (Some (suc i)) (position_from p (suc i + 1) xs) isnt) in
       let z : suc i + 1 ≡ suc (suc i) = omega arith in
       omega
-      (arith, e, ap (λ (k : ℕ). unwrap_or (position_from p k xs) 0) z, position_below p (suc i) xs)
+      (arith, e, ap (λ k. unwrap_or (position_from p k xs) 0) z, position_below p (suc i) xs)
 ]
 
 -- A map of directions, and the cut map: the one with gauges made outlets.
@@ -137,8 +131,7 @@ module _ {d : Directed} (s : IsEnding d)
   is_gauge q = list_any (is_place q) gauges
 
   goes_on : (q : Place) → is_gauge q ≡ false → next cut_d q ≡ next d q
-  goes_on q none = ap (λ (o : Option ℕ).
-      unwrap_or (option_and_then (λ code. place_toward code q) o) q) (cut.elsewhere q none)
+  goes_on q none = cc (cut.elsewhere q none)
 
   stays : (q : Place) → is_gauge q ≡ true → next cut_d q ≡ q
   stays q is = outlet_stays cut_d q (cut.at_gauges q is)
@@ -147,24 +140,24 @@ module _ {d : Directed} (s : IsEnding d)
       follow cut_d p k ≡ follow d p k
   follows p zero clear = refl
   follows p (suc k) clear = ap (next cut_d) (follows p k
-      (λ j below. clear j (omega (arith, below)))) ∙ goes_on (follow d p k) (clear k (omega arith))
+      (λ j below. clear j (omega (arith, below)))) ∙ goes_on _ (clear k (omega arith))
 
   -- If the path of p meets a gauge, p's path in the cut map ends at the first gauge on the path.
   last_first : (p : Place) → (w : IsFirst is_gauge (follow d p) (moves d)) →
       last_of cut_d p ≡ follow d p w.at
   last_first p w =
-      let here = follows p w.at w.before in
-      follow_stays cut_d p w.at (moves d) (omega (arith, w.below)) (ap (next cut_d) here
-      ∙ stays (follow d p w.at) w.passes ∙ sym here) ∙ here
+      let here = follows p _ w.before in
+      follow_stays cut_d p _ _ (omega (arith, w.below)) (ap (next cut_d) here
+      ∙ stays _ w.passes ∙ sym here) ∙ here
 
   last_absent : (p : Place) → IsAbsent is_gauge (follow d p) (moves d) →
       last_of cut_d p ≡ last_of d p
-  last_absent p w = follows p (moves d) w.fails
+  last_absent p w = follows p _ w.fails
 
   no_gauge_last : {p : Place} → IsCoded d p → IsAbsent is_gauge (follow d p) (moves d) →
       is_gauge (last_of d p) ≡ false
   no_gauge_last is w = let m = reached_early s is (moves d) refl in
-      ap is_gauge (sym m.3) ∙ w.fails m.0 m.1
+      cc (w.fails m.0 m.1)
 
   -- The catchment of a data cell p is the gauge number of the end of p's path in the cut map.
   pub caught : (p : Place) → IsCoded d p →
@@ -183,47 +176,47 @@ module _ {d : Directed} (s : IsEnding d)
   coded_of p (Some c) e some = record { code = c; is = e }
 
   coded_gauge : (p : Place) → is_gauge p ≡ true → IsCoded d p
-  coded_gauge p is = coded_of p (code_at d p) refl (coded p is)
+  coded_gauge p is = coded_of p _ refl (coded p is)
 
   coded_from_cut : {p : Place} → IsCoded cut_d p → IsCoded d p
   coded_from_cut {p} is = elim (cases_Bool (is_gauge p)) [
     | inl there ↦ coded_gauge p there
-    | inr isnt ↦ record { code = is.code; is = sym (cut.elsewhere p isnt) ∙ is.is }
+    | inr isnt ↦ record { code = is.code; is = cc (cut.elsewhere p isnt) }
   ]
 
   coded_to_cut : (p : Place) → IsCoded d p → IsCoded cut_d p
   coded_to_cut p is = elim (cases_Bool (is_gauge p)) [
     | inl there ↦ record { code = 0; is = cut.at_gauges p there }
-    | inr isnt ↦ record { code = is.code; is = cut.elsewhere p isnt ∙ is.is }
+    | inr isnt ↦ record { code = is.code; is = cc (cut.elsewhere p isnt) }
   ]
 
   pub cut_ends : AllFlowEnds cut_d
   cut_ends p code e =
       let is = coded_from_cut (record { code = code; is = e }) in
       elim (cases_first is_gauge (follow d p) (moves d)) [
-        | inl w ↦ ap (code_at cut_d) (last_first p w) ∙ cut.at_gauges (follow d p w.at) w.passes
+        | inl w ↦ ap (code_at cut_d) (last_first p w) ∙ cut.at_gauges _ w.passes
         | inr w ↦
             ap (code_at cut_d) (last_absent p w)
-            ∙ cut.elsewhere (last_of d p) (no_gauge_last is w) ∙ s.ends p is.code is.is
+            ∙ cut.elsewhere _ (no_gauge_last is w) ∙ s.ends p _ is.is
       ]
 
   -- Two data cells have the same row-order index exactly if they are the same cell.
   agree : (q g : Place) → IsCoded d q → IsCoded d g →
       (index_of d.cols g == index_of d.cols q) ≡ is_place q g
   agree q g a b = elim (cases_Bool (is_place q g)) [
-    | inl same ↦ eq-eqb _ _ (ap (index_of d.cols) (sym (place_is q g same))) ∙ sym same
+    | inl same ↦ eq-eqb _ _ (cc (place_is q g same)) ∙ sym same
     | inr apart ↦ ne_eqb _ _ (λ e. false≢true (sym apart ∙ is_place_from q g (sym
-        (index_injective d.cols g q (coded_inside b).1 (coded_inside a).1 e)))) ∙ sym apart
+        (index_injective _ g q (coded_inside b).1 (coded_inside a).1 e)))) ∙ sym apart
   ]
 
   numbered_at : {q : Place} → IsCoded d q →
       unwrap_or (number_of_index d.cols gauges (index_of d.cols q)) 0 ≡ gauge_number gauges q
   numbered_at {q} is = ap or_zero
-      (position_same (λ (g : Place). index_of d.cols g == index_of d.cols q) (is_place q) 1 gauges
+      (position_same (λ g. index_of d.cols g == index_of d.cols q) _ 1 gauges
       (λ k g below.
       let there = get_or gauges k g in
       agree q there is (coded_gauge there
-      (list_any_at (is_place there) gauges k g below (is_place_from there there refl)))))
+      (list_any_at _ gauges k g below (is_place_from there there refl)))))
 
   -- If `values` has for each data cell the gauge number of the place where the cell's path ends in
   -- the cut map, and `None` at NODATA, the values are the catchments.

@@ -21,9 +21,7 @@ use Rattle.flow.specs.CutCodes.{HaveCodes}
 pub fault_inside : (t : Terrain) (i : ℕ) (p : Place) → p.row < t.rows → p.col < t.cols →
     sink_fault_of t i p ≡ (if is_none (height_at t p) then Some (OnNodata i) else None)
 fault_inside t i p row col =
-    ap (λ b.
-    if not b then Some (Outside i) else if is_none (height_at t p) then Some (OnNodata i) else None)
-    (and_from (nat_lt p.row t.rows) (nat_lt p.col t.cols) (lt-ltb _ _ row) (lt-ltb _ _ col))
+    cc (and_from (nat_lt p.row t.rows) (nat_lt p.col t.cols) (lt-ltb _ _ row) (lt-ltb _ _ col))
 
 none_is : {X : Type 0} (o : Option X) → is_none o ≡ not (is_some o)
 none_is None = refl
@@ -38,8 +36,7 @@ pub none_of_code : {d : Drained} → IsDraining d → (p : Place) {code : Option
     code ≡ code_at (directed_of d) p → is_some code ≡ not none →
     is_none (height_at d.terrain p) ≡ none
 none_of_code {d} draining p none read is =
-    none_is (height_at d.terrain p)
-    ∙ ap not (sym (draining.same_data p) ∙ ap is_some (sym read) ∙ is) ∙ not_not none
+    cc (none_is (height_at d.terrain p), draining.same_data p, not_not none)
 
 no_sink_fault : (o : Option SinkFault) → option_map fault_of_gauge o ≡ None → o ≡ None
 no_sink_fault None e = refl
@@ -48,18 +45,18 @@ no_sink_fault (Some f) e = absurd (cc)
 module _ {d : Drained} (draining : IsDraining d) (gauges : List Place)
     (none : gauges_fault d.terrain gauges ≡ None) where
   no_fault : sinks_fault d.terrain gauges ≡ None
-  no_fault = no_sink_fault (sinks_fault d.terrain gauges) none
+  no_fault = no_sink_fault _ none
 
   pub all_sound : All (IsSound d.terrain) gauges
   all_sound = sinks_sound d.terrain gauges no_fault
 
   pub few_gauges : length gauges ≤ most_sinks
-  few_gauges = ltb-false most_sinks (length gauges) (few_sinks d.terrain gauges no_fault)
+  few_gauges = ltb-false most_sinks _ (few_sinks d.terrain gauges no_fault)
 
   have_codes : HaveCodes d.terrain.cols d.terrain.rows d.codes gauges
   have_codes p named =
       let there = listed_from_any p gauges named in
-      rw there.2 at (draining.same_data (get_or gauges there.0 p) ∙ (all_sound there.0 p there.1).1)
+      rw there.2 at (draining.same_data _ ∙ (all_sound _ p there.1).1)
 
   pub have_codes_in : (t : Cutting) {codes : List (Option ℕ)} → Cuts t d.terrain → codes ≡ d.codes →
       HaveCodes t.cols t.rows codes gauges

@@ -36,7 +36,7 @@ pub record AreTileWeights (d : Directed) (b : Bounds) (weights : List ℕ) : Typ
 pub cases_bounds : (b : Bounds) (p : Place) → IsInBounds b p ⊎ (IsInBounds b p → ⊥)
 cases_bounds b p = elim (cases_Bool (is_in_bounds b p)) [
   | inl t ↦ inl (in_bounds_parts b p t)
-  | inr f ↦ inr (λ h. (let t = in_bounds_from b p h in absurd cc))
+  | inr f ↦ inr (λ h. let t = in_bounds_from b p h in absurd cc)
 ]
 
 pub link-in : (d : Directed) (b : Bounds) (i : ℕ) → IsInBounds b (next d (place_in b i)) →
@@ -84,13 +84,12 @@ module _ {d : Directed} {c : Cutting} {tile : ℕ} {b : Bounds} {links : List �
   pub self_link : (i : ℕ) → i < length links → next d (place_in b i) ≡ place_in b i →
       next_node links i ≡ i
   self_link i h e =
-      link_is i h ∙ link-in d b i (rw e (in_place i h))
-      ∙ ap (index_in b) e ∙ index_in-place_in b i
+      cc (link_is i h, link-in d b i (rw e (in_place i h)), index_in-place_in b i)
 
   pub link_place : (i : ℕ) → i < length links → IsInBounds b (next d (place_in b i)) →
       place_in b (next_node links i) ≡ next d (place_in b i)
   link_place i h y = ap (place_in b) (link_is i h ∙ link-in d b i y)
-      ∙ place_in-index_in b (next d (place_in b i)) y
+      ∙ place_in-index_in b _ y
 
   -- k moves along links from node j lead where the first `met` moves of cell j's flow path lead,
   -- inside the bounds. `met` is k, unless the path along links has ended after k moves.
@@ -106,8 +105,8 @@ module _ {d : Directed} {c : Cutting} {tile : ℕ} {b : Bounds} {links : List �
     met = t.met;
     few = omega (arith, t.few);
     way = t.way;
-    here = ap (place_in b) stop ∙ t.here;
-    done = inr (ap (next_node links) stop);
+    here = cc;
+    done = inr (cc);
   }
 
   way_on : (j m : ℕ) → ((l : ℕ) → l ≤ m → IsInBounds b (follow d (place_in b j) l)) →
@@ -123,7 +122,7 @@ module _ {d : Directed} {c : Cutting} {tile : ℕ} {b : Bounds} {links : List �
     met = 0;
     few = omega arith;
     way = λ l le. (let z : 0 ≡ l = omega arith in
-        subst (λ n. IsInBounds b (follow d (place_in b j) n)) z (in_place j h));
+        rw (← z) (in_place j h));
     here = refl;
     done = inl refl;
   }
@@ -132,15 +131,14 @@ module _ {d : Directed} {c : Cutting} {tile : ℕ} {b : Bounds} {links : List �
       elim t.done [
         | inr stop ↦ stopped t stop
         | inl same ↦ elim (cases_bounds b (next d (place_in b (node_after links j k)))) [
-          | inr out ↦ stopped t (link_is (node_after links j k) (node_inside j h k)
-              ∙ link-out d b (node_after links j k) out)
-          | inl y ↦ (let on : next d (place_in b (node_after links j k))
-              ≡ follow d (place_in b j) (suc t.met) = ap (next d) t.here in
+          | inr out ↦ stopped t (link_is _ (node_inside j h k)
+              ∙ link-out d b _ out)
+          | inl y ↦ (let on = ap (next d) t.here in
               record {
                 met = suc t.met;
                 few = omega (arith, t.few);
-                way = way_on j t.met t.way (rw on at y);
-                here = link_place (node_after links j k) (node_inside j h k) y ∙ on;
+                way = way_on j _ t.way (rw on at y);
+                here = link_place _ (node_inside j h k) y ∙ on;
                 done = inl (ap suc same);
               })
         ]
@@ -148,17 +146,16 @@ module _ {d : Directed} {c : Cutting} {tile : ℕ} {b : Bounds} {links : List �
 
   pub stops : (j : ℕ) → j < length links → (k : ℕ) × IsStop links j k
   stops j h = elim (cases_coded d (place_in b j)) [
-    | inl none ↦ (0, self_link j h (none_stays d (place_in b j) none))
-    | inr is ↦ (let t = follows_links j h (moves d) in elim t.done [
+    | inl none ↦ (0, self_link j h (none_stays d _ none))
+    | inr is ↦ let t = follows_links j h _ in elim t.done [
       | inr stop ↦ (moves d, stop)
-      | inl same ↦ (let last : place_in b (node_after links j (moves d))
-          ≡ last_of d (place_in b j) = t.here ∙ ap (follow d (place_in b j)) same in (
-            moves d,
-            self_link (node_after links j (moves d)) (node_inside j h (moves d))
-                (ap (next d) last ∙ outlet_stays d (last_of d (place_in b j))
-                (s.ends (place_in b j) is.code is.is) ∙ sym last),
-          ))
-    ])
+      | inl same ↦ (let last = t.here ∙ ap (follow d (place_in b j)) same in (
+        moves d,
+        self_link _ (node_inside j h _)
+            (ap (next d) last ∙ outlet_stays d _
+            (s.ends _ _ is.is) ∙ sym last),
+      ))
+    ]
   ]
 
   pub tile_streams : AreStreams links
@@ -166,7 +163,7 @@ module _ {d : Directed} {c : Cutting} {tile : ℕ} {b : Bounds} {links : List �
 
   pub coded_within : {p : Place} → IsCoded d p → IsWithin c p
   coded_within {p} is = let w = coded_inside is in
-      (omega (arith, w.0, s.rows), omega (arith, w.1, s.cols))
+      omega (arith, w.0, s.rows, w.1, s.cols)
 
   pub few_cells : length links ≤ moves d
   few_cells =
@@ -179,8 +176,8 @@ module _ {d : Directed} {c : Cutting} {tile : ℕ} {b : Bounds} {links : List �
 
   pub stays_from_way : (q : Place) (k : ℕ) → ((l : ℕ) → l ≤ k → IsInBounds b (follow d q l)) →
       stays d c q k ≡ true
-  stays_from_way q k way = all_in_range _ (k + 1)
-      (λ l h. eq-eqb _ _ (tile_is (follow d q l) (way l (omega arith))
+  stays_from_way q k way = all_in_range _ _
+      (λ l h. eq-eqb _ _ (tile_is _ (way l (omega arith))
       ∙ sym (tile_is q (way 0 (omega arith)))))
 
   pub exit_is : (i : ℕ) → i < length links → IsCoded d (place_in b i) →

@@ -41,15 +41,14 @@ links_are {d} {t} {flows} s {i} {o} same here inflows outlets = record {
   inflows = λ p w. ap (λ x. inflow_by x i.listed p) (here ∙ sym same)
       ∙ inflows.each p w;
   outlets = λ p x. (let w = within_of s (coded_from_some d p x.0) in
-      let inside : is_within o.cutting p ≡ true = ap (λ c. is_within c p) here
-      ∙ and_from _ _ (lt-ltb _ _ w.0) (lt-ltb _ _ w.1) in
-      cond-true {A = Option Place} _ (outlet_by o.cutting flows o.listed p) None inside
+      let inside : is_within o.cutting p ≡ true = cc (and_from _ _ (lt-ltb _ _ w.0) (lt-ltb _ _ w.1)) in
+      cond-true _ _ None inside
       ∙ outlets.outlets p x);
   no_outlets = λ p out. elim (cases_Bool (is_within o.cutting p)) [
-    | inr f ↦ cond-false {A = Option Place} _ (outlet_by o.cutting flows o.listed p) None f
-    | inl y ↦ (let w = and_parts _ _ (sym (ap (λ c. is_within c p) here) ∙ y) in
+    | inr f ↦ cond-false _ _ None f
+    | inl y ↦ (let w = and_parts _ _ (cc) in
         let within : IsWithin t p = (ltb-true _ _ w.0, ltb-true _ _ w.1) in
-        cond-true {A = Option Place} _ (outlet_by o.cutting flows o.listed p) None y
+        cond-true _ _ None y
         ∙ outlets.no_outlets p within out)
   ];
 }

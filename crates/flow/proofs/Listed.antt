@@ -21,17 +21,18 @@ pub made_at : {X : Type 0} (cells : List (Option ℕ)) (value : ℕ → X) (n i 
     where_data code x
     ≡ get_or (map (λ i. where_data (get_or cells i None) (value i)) (range_with_len 0 n)) i None
 made_at cells value n i code x inside h read same =
-    ap (λ o. where_data o x) (read ∙ get_or_default cells i code None inside)
-    ∙ ap (where_data (get_or cells i None)) same
-    ∙ sym (get_or-map-range_with_len
-    (λ i. where_data (get_or cells i None) (value i)) 0 n i i None h (omega arith))
+    cc (
+      get_or_default cells i code None inside,
+      get_or-map-range_with_len
+          (λ i. where_data (get_or cells i None) (value i)) 0 n i i None h (omega arith),
+    )
 
 pub place_in_row : (b : Bounds) (r k : ℕ) → k < b.cols →
     place_in b (r * b.cols + k) ≡ make_place (b.top + r) (b.left + k)
 place_in_row b r k h =
-    same_place (place_in b (r * b.cols + k)) (make_place (b.top + r) (b.left + k))
-    (ap (λ n. b.top + n) (div-mul-add r b.cols k h))
-    (ap (λ n. b.left + n) (mod-mul-add r b.cols k h))
+    same_place _ _
+    (cc (div-mul-add r b.cols k h))
+    (cc (mod-mul-add r b.cols k h))
 
 -- `cells` has the codes of the first `rows` rows of the bounds.
 pub record AreFirstRows (v : View (Option ℕ)) (b : Bounds) (rows : ℕ) (cells : List (Option ℕ)) :
@@ -47,10 +48,12 @@ row_code v b r k e a below inside =
     let x = a.rows_inside in let y = a.cols_inside in
     let sum : (b.top + r) * v.cutting.cols + b.left + k ≡ (b.top + r) * v.cutting.cols
     + (b.left + k) = omega arith in
-    row_has v None b r k e inside ∙ ap (λ n. get_or v.cells n None) sum
-    ∙ sym (entry-inside v.cutting.cols v.cutting.rows v.cells (make_place (b.top + r) (b.left + k))
-    (omega arith) (omega arith))
-    ∙ ap (code_at (directed_by v)) (sym (place_in_row b r k inside))
+    cc (
+      row_has v None b r k e inside,
+      entry-inside v.cutting.cols v.cutting.rows v.cells (make_place (b.top + r) (b.left + k))
+          (omega arith) (omega arith),
+      place_in_row b r k inside,
+    )
 
 pub row_added : {v : View (Option ℕ)} {b : Bounds} {r : ℕ} {cells row new : List (Option ℕ)} →
     b ≡ bounds_of v.cutting v.tile → AreBounds v.cutting b → r < b.rows →
@@ -62,15 +65,14 @@ row_added {v} {b} {r} {cells} {row} e a below is size made so_far =
     record {
       size = ap length made ∙ length-append cells row ∙ omega (arith, so_far.size, size, more);
       each = λ i h. elim (cases_lt i (r * b.cols)) [
-        | inl early ↦ ap (λ xs. get_or xs i None) made
-            ∙ get_or_append_left cells row None i (omega (arith, so_far.size)) ∙ so_far.each i early
+        | inl early ↦ cc (get_or_append_left cells row None i (omega (arith, so_far.size)), so_far.each i early)
         | inr late ↦
             let inside : i - r * b.cols < b.cols = omega (arith, h, more, late) in
             let at : r * b.cols + (i - r * b.cols) ≡ i = omega (arith, late) in
             ap (λ xs. get_or xs i None) made
-            ∙ get_or-append_right cells row (r * b.cols) i None so_far.size late
+            ∙ get_or-append_right cells row _ i None so_far.size late
             ∙ ap (λ xs. get_or xs (i - r * b.cols) None) is
-            ∙ row_code v b r (i - r * b.cols) e a below inside
+            ∙ row_code v b r _ e a below inside
             ∙ ap (λ n. code_at (directed_by v) (place_in b n)) at
       ];
     }

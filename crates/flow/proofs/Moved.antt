@@ -30,12 +30,12 @@ toward_touches : (p q : Place) (code : ℕ) → place_toward code p ≡ Some q �
 toward_touches p q code e = elim (cases_option (way_of code)) [
   | inl none ↦ absurd (none-some q
       (sym (ap (option_and_then (λ way. place_on way p)) none) ∙ e))
-  | inr way ↦ (let at : get_or (ways_from p) way.0 None ≡ Some q =
+  | inr way ↦ (let at =
       sym (ap (option_and_then (λ way. place_on way p)) way.1) ∙ e in
       elim (cases_lt way.0 8) [
         | inl below ↦ (Touches-from_ways p q
-            (way.0, below, get_or_default (ways_from p) way.0 (Some q) None below ∙ at)).0
-        | inr far ↦ absurd (none-some q (sym (get_or_past (ways_from p) way.0 None far) ∙ at))
+            (way.0, below, get_or_default (ways_from p) _ _ None below ∙ at)).0
+        | inr far ↦ absurd (none-some q (sym (get_or_past (ways_from p) _ None far) ∙ at))
       ])
 ]
 
@@ -45,13 +45,13 @@ led p code = unwrap_or (option_and_then (λ c. place_toward c p) code) p
 
 touches_self : (p : Place) → Touches p p
 touches_self p =
-    record { row_down = omega arith; row_up = omega arith; col_right = omega arith; col_left = omega arith }
+    omega arith
 
 pub next_touches : (p : Place) (code : Option ℕ) → Touches p (led p code)
 next_touches p None = touches_self p
 next_touches p (Some c) = elim (cases_option (place_toward c p)) [
   | inl none ↦ rw none (touches_self p)
-  | inr q ↦ rw q.1 (toward_touches p q.0 c q.1)
+  | inr q ↦ rw q.1 (toward_touches p _ c q.1)
 ]
 
 pub few_cells : (b : Bounds) → b.top + b.rows ≤ longest_axis → b.left + b.cols ≤ longest_axis →
@@ -59,7 +59,7 @@ pub few_cells : (b : Bounds) → b.top + b.rows ≤ longest_axis → b.left + b.
 few_cells b rows cols =
     let r : b.rows ≤ 4096 = omega (arith, rows) in
     let k : b.cols ≤ 4096 = omega (arith, cols) in
-    let most : b.rows * b.cols ≤ 4096 * 4096 = mul-le-mul r k in
+    let most = mul-le-mul r k in
     omega arith
 
 -- What a move of these parts reaches and tells.
@@ -91,7 +91,7 @@ module _ (b : Bounds) (i : ℕ) {p : Place} (at : p ≡ place_in b i) (code : Op
   link_inside inside = linked ∙ cond-true _ _ _ (in_bounds_from b q inside)
 
   pub stay_outside : is_in_bounds b q ≡ false → link_by b i code ≡ i
-  stay_outside out = linked ∙ cond-false _ (index_in b q) i out
+  stay_outside out = linked ∙ cond-false _ _ i out
 
   pub stay_at : q ≡ p → link_by b i code ≡ i
   stay_at same = elim (cases_Bool (is_in_bounds b q)) [
@@ -121,11 +121,11 @@ module _ (b : Bounds) (i : ℕ) {p : Place} (at : p ≡ place_in b i) (code : Op
           arith,
           reach_parts b.cols i (q.row + 1 - p.row) (q.col + 1 - p.col) n (omega (arith, right_few)) few,
           right_few,
-          strides (p.row - b.top) (q.row - b.top) (q.row + 1 - p.row) b.cols rows,
+          strides _ _ _ b.cols rows,
           sym (index_in-place_in b i) ∙ ap (index_in b) (sym at),
           link_inside inside,
         );
-        tells = told_parts (q.row + 1 - p.row) (q.col + 1 - p.col) n (omega (arith, right_few)) few ∙ told;
+        tells = told_parts _ _ n (omega (arith, right_few)) few ∙ told;
       }
     where
       strides : (x y d c : ℕ) → y + 1 ≡ x + d → y * c + c ≡ x * c + d * c
@@ -174,8 +174,8 @@ module _ {b : Bounds} {r k : ℕ} (interior : IsInteriorAt b r k) where
 
   stays_interior : (code : Option ℕ) → option_and_then (λ c. place_toward c here) code ≡ None →
       link_by b (r * b.cols + k) code ≡ r * b.cols + k
-  stays_interior code none = stay_at b (r * b.cols + k) here_is code refl
-      (ap (λ o. unwrap_or o here) none)
+  stays_interior code none = stay_at b _ here_is code refl
+      (cc)
 
   goes_on_way : (n way : ℕ) → way_of n ≡ Some way → way < 8 →
       IsLeading b (r * b.cols + k) (Some n) (get_or interior_moves way 0)
@@ -196,8 +196,7 @@ module _ {b : Bounds} {r k : ℕ} (interior : IsInteriorAt b r k) where
 
   goes : (n : ℕ) → n < 10 → IsLeading b (r * b.cols + k) (code_numbered n) (get_or interior_moves n 0)
   goes = ten (λ n. IsLeading b (r * b.cols + k) (code_numbered n) (get_or interior_moves n 0))
-      (λ n below. subst (λ (code : Option ℕ). IsLeading b (r * b.cols + k) code (get_or interior_moves n 0))
-      (sym (way_told n below).1) (goes_on_way (code_of (Some n)) n (way_told n below).0 below))
+      (λ n below. rw (way_told n below).1 (goes_on_way _ n (way_told n below).0 below))
       (omega (arith, stays_interior (Some 0) refl)) (omega (arith, stays_interior None refl))
 
 interior_told : (n : ℕ) → n < 10 → code_told (get_or interior_moves n 0) ≡ code_numbered n
@@ -208,7 +207,7 @@ interior_told = ten (λ n. code_told (get_or interior_moves n 0) ≡ code_number
 pub moves_inside : {code : Option ℕ} (n : ℕ) → n < 10 → code_numbered n ≡ code →
     IsInteriorMove code (get_or interior_moves n 0)
 moves_inside {code} n below told b row col interior = record {
-  leads = subst (λ (code : Option ℕ). IsLeading b (row * b.cols + col) code (get_or interior_moves n 0)) told
+  leads = rw (← told)
       (goes interior n below);
   tells = interior_told n below ∙ told;
 }
@@ -236,7 +235,7 @@ set_kept P xs k x i below here was = elim (cases_eq i k) [
 
 pub each_set : (P : ℕ → ℕ → Type 0) (xs : List ℕ) (k x : ℕ) → k < length xs → P k x →
     ((i : ℕ) → i < k → P i (get_or xs i 0)) → (i : ℕ) → i < k + 1 → P i (get_or (set xs k x) i 0)
-each_set P xs k x below here each = below_more (λ i. P i (get_or (set xs k x) i 0)) k
+each_set P xs k x below here each = below_more (λ i. P i _) k
     (λ i early. set_kept P xs k x i below here (each i early)) (rw (get_or-set_same xs k x 0 below) here)
 
 -- The list has the move of cell i.
@@ -252,11 +251,11 @@ pub record AreMovesUpTo (b : Bounds) (cells : List (Option ℕ)) (count : ℕ) (
 pub moves_first : {b : Bounds} {cells : List (Option ℕ)} {moves : List ℕ} → length cells ≡ b.rows * b.cols →
     AreInteriorMoves cells moves → AreMovesUpTo b cells 0 moves
 moves_first {b} size s = record {
-  size = s.size ∙ size;
+  size = cc;
   interior = λ row col at.
       let high : row < b.rows = omega (arith, at.last_row) in
       let wide : col < b.cols = omega (arith, at.last_col) in
-      s.each (row * b.cols + col) (omega (arith, size, mul-add-lt row b.cols col b.rows high wide)) b row col at;
+      s.each _ (omega (arith, size, mul-add-lt row _ col _ high wide)) b row col at;
   sides = λ side none. absurd (omega (arith, none));
 }
 
@@ -269,10 +268,10 @@ moves_next {b} {cells} {moves} side move below here s =
     let P : ℕ → ℕ → Type 0 = λ i move. IsMove b i (get_or cells i None) move in
     let inside : k < length moves = omega (arith, below, s.size) in
     record {
-      size = length-set moves k move ∙ s.size;
-      interior = λ row col at. set_kept P moves k move (row * b.cols + col) inside here (s.interior row col at);
+      size = cc (length-set moves k move);
+      interior = λ row col at. set_kept P moves k move _ inside here (s.interior row col at);
       sides = below_more (λ j. MoveAt b cells (set moves k move) (index_in b (side_place b b j))) side
-          (λ j early. set_kept P moves k move (index_in b (side_place b b j)) inside here (s.sides j early))
+          (λ j early. set_kept P moves k move _ inside here (s.sides j early))
           (rw (get_or-set_same moves k move 0 inside) here);
     }
 
@@ -290,7 +289,7 @@ cases_rim b i some_col below =
     let rim : IsSide b (place_in b i) → HasSide b i = λ side. (
       side_number b b p,
       side_below b b p (omega arith) (omega arith) here,
-      ap (index_in b) (side_back b b p (omega arith) (omega arith) here side) ∙ index_in-place_in b i,
+      cc (side_back b b p (omega arith) (omega arith) here side, index_in-place_in b i),
     ) in
     elim (cases_eq (place_in b i).row b.top) [
       | inl top ↦ inl (rim (λ a _ _. absurd (a top)))
@@ -303,12 +302,7 @@ cases_rim b i some_col below =
             | inr before ↦ inr (
               i / b.cols,
               i % b.cols,
-              record {
-                first_row = omega arith;
-                last_row = omega arith;
-                first_col = omega arith;
-                last_col = omega arith;
-              },
+              omega arith,
               omega arith,
             )
           ]
@@ -321,8 +315,8 @@ pub moves_all : {b : Bounds} {cells : List (Option ℕ)} {moves : List ℕ} (cou
 moves_all {b} {cells} {moves} count some_col all s = record {
   size = s.size;
   each = λ i below. elim (cases_rim b i some_col below) [
-    | inl rim ↦ subst (λ k. MoveAt b cells moves k) rim.2 (s.sides rim.0 (omega (arith, rim.1)))
-    | inr inner ↦ subst (λ k. MoveAt b cells moves k) inner.3 (s.interior inner.0 inner.1 inner.2)
+    | inl rim ↦ rw (← rim.2) (s.sides _ (omega (arith, rim.1)))
+    | inr inner ↦ rw (← inner.3) (s.interior _ _ inner.2)
   ];
 }
 
@@ -342,20 +336,20 @@ module _ {b : Bounds} {cells : List (Option ℕ)} {moves : List ℕ} (small : En
 
   pub moved_links : moved_by b.cols moves ≡ links_by b cells
   moved_links =
-      let there : ℕ → ℕ = λ i. reach b.cols i (get_or moves i 0) - (b.cols + 1) in
+      let there : ℕ → ℕ = λ i. reach b.cols i _ - (b.cols + 1) in
       let link : ℕ → ℕ = λ i. link_by b i (get_or cells i None) in
-      let made : length (moved_by b.cols moves) ≡ length moves =
-      length-map-range_with_len there 0 (length moves) in
-      same_number_lists _ _ (made ∙ s.size ∙ sym (length-map-range_with_len link 0 (b.rows * b.cols)))
+      let made =
+      length-map-range_with_len there 0 _ in
+      same_number_lists _ _ (made ∙ s.size ∙ sym (length-map-range_with_len link 0 _))
       (λ i h. (let below : i < b.rows * b.cols = omega (arith, h, made, s.size) in omega (
         arith,
         get_or-map-range_with_len there 0 (length moves) i i 0 (omega (arith, h, made)) (omega arith),
-        get_or-map-range_with_len link 0 (b.rows * b.cols) i i 0 below (omega arith),
+        get_or-map-range_with_len link 0 _ i i 0 below (omega arith),
         (s.each i below).leads,
       )))
 
   pub told_codes : length cells ≡ b.rows * b.cols → map code_told moves ≡ cells
-  told_codes size = same_lists _ _ (length-map moves code_told ∙ s.size ∙ sym size)
+  told_codes size = same_lists _ _ (cc (length-map moves code_told))
       (λ i none h. (let below : i < length moves = omega (arith, h, length-map moves code_told) in
       get_or-map code_told moves i 0 none below ∙ (s.each i (omega (arith, below, s.size))).tells
       ∙ get_or_default cells i None none (omega (arith, below, s.size, size))))
@@ -380,6 +374,6 @@ next_read {cols} {moves} {links} i {move} fit seen h read =
       omega (arith, fit.low i below, at),
       omega (arith, fit.high i below, at),
       ap (λ n. n - (cols + 1)) at
-          ∙ sym (get_or-map-range_with_len (λ i. reach cols i (get_or moves i 0) - (cols + 1)) 0 (length moves)
-          i i 0 below (omega arith)) ∙ ap (λ (l : List ℕ). get_or l i 0) seen,
+          ∙ sym (get_or-map-range_with_len (λ i. reach cols i _ - (cols + 1)) 0 _
+          i i 0 below (omega arith)) ∙ ap (λ l. get_or l i 0) seen,
     )

@@ -35,7 +35,7 @@ outlet_number_few codes few i =
 pub numbers_few : {o : Outlets} {flows : List Flow} {n : EndNumbers} {f : Flow} → AreNumberedCells o flows n f →
     (i : ℕ) → i < length f.exits → (tile_numbers o flows n f).number i < uncounted
 numbers_few {o} {flows} {n} {f} are i below =
-    cond_both (is_some (get_or f.codes i None)) _ 0 (λ (k : ℕ). k < uncounted) (λ _. (are.places i below).few)
+    cond_both _ _ 0 (λ k. k < uncounted) (λ _. (are.places i below).few)
     (λ _. omega arith)
 
 -- A map's flows, the outlets found from them, and numbers below `uncounted` meet `IsNumbering`.
@@ -48,17 +48,17 @@ numbering_of {d} {t} o n are cutting outlets size few = record {
   are_flows = are;
   are_outlets = outlets d are;
   same_cutting = cutting;
-  size = size ∙ sym (ap (λ n. d.cols * n) are.of_tiles.size.1 ∙ ap (λ n. n * t.rows) are.of_tiles.size.0);
+  size = cc;
   few = few;
 }
 
 module _ {d : Directed} {t : Cutting} {flows : List Flow} {o : Outlets} {n : EndNumbers}
     (s : IsNumbering d t flows o n) where
   same_cols : o.cutting.cols ≡ d.cols
-  same_cols = ap (λ (c : Cutting). c.cols) s.same_cutting ∙ sym s.are_flows.of_tiles.size.0
+  same_cols = cc
 
   number_of_last : (p : Place) → number_at o.cutting.cols n (Some (last_of d p)) ≡ end_number d n p
-  number_of_last p = ap (λ cols. n.number (index_of cols (last_of d p))) same_cols
+  number_of_last p = cc same_cols
 
   last_below : (p : Place) → IsCoded d p → index_of d.cols (last_of d p) < n.cells
   last_below p is =
@@ -67,13 +67,13 @@ module _ {d : Directed} {t : Cutting} {flows : List Flow} {o : Outlets} {n : End
       omega (arith, index_below d.cols d.rows (last_of d p) w.0 w.1, s.size)
 
   number_few : (p : Place) → IsCoded d p → end_number d n p < uncounted
-  number_few p is = s.few (index_of d.cols (last_of d p)) (last_below p is)
+  number_few p is = s.few _ (last_below p is)
 
   exit_place : (p : Place) → IsCoded d p → IsExitCell d t p → IsNumberedPlace o flows n p
   exit_place p is cell =
       let at = s.are_outlets.outlets p cell in
       record {
-        within = subst (λ c. IsWithin c p) (sym s.same_cutting) (within_of s.are_flows is);
+        within = rw s.same_cutting (within_of s.are_flows is);
         numbered =
             let below : index_of o.cutting.cols (last_of d p) < n.cells =
             omega (arith, last_below p is, ap (λ cols. index_of cols (last_of d p)) same_cols) in
@@ -85,20 +85,20 @@ module _ {d : Directed} {t : Cutting} {flows : List Flow} {o : Outlets} {n : End
   other_place p within other =
       let at = s.are_outlets.no_outlets p within other in
       record {
-        within = subst (λ c. IsWithin c p) (sym s.same_cutting) within;
+        within = rw s.same_cutting within;
         numbered = rw at tt;
         few = omega (arith, ap (number_at o.cutting.cols n) at);
       }
 
   numbered_place : (p : Place) → IsWithin t p → IsNumberedPlace o flows n p
   numbered_place p within = elim (cases_coded d p) [
-    | inl none ↦ other_place p within (λ x. false≢true (sym (ap is_some none) ∙ x.0))
+    | inl none ↦ other_place p within (λ x. false≢true (cc))
     | inr is ↦ elim (cases_eq is.code 0) [
-      | inl out ↦ exit_place p is (ap is_some is.is, inl (is.is ∙ ap Some out))
+      | inl out ↦ exit_place p is (cc, inl (cc))
       | inr goes ↦ elim (cases_eq (tile_of_place t (next d p)) (tile_of_place t p)) [
-        | inr apart ↦ exit_place p is (ap is_some is.is, inr apart)
+        | inr apart ↦ exit_place p is (cc, inr apart)
         | inl same ↦ other_place p within (λ x. elim x.1 [
-          | inl out ↦ goes (same_Some is.code 0 (sym is.is ∙ out))
+          | inl out ↦ goes (same_Some is.code 0 (cc))
           | inr apart ↦ apart same
         ])
       ]
@@ -110,21 +110,21 @@ module _ {d : Directed} {t : Cutting} {flows : List Flow} {o : Outlets} {n : End
     right = s.are_flows.of_tiles.each tile f there
 
     cell_size : length f.exits ≡ cell_count t tile
-    cell_size = right.lawful.exits_size ∙ ap (λ (b : Bounds). b.rows * b.cols) right.bounds
+    cell_size = right.lawful.exits_size ∙ ap (λ b. b.rows * b.cols) right.bounds
 
     in_flow : (p : Place) → IsInTile t tile p → IsInBounds f.bounds p
     in_flow p i = rw right.bounds (in_bounds t tile p s.are_flows.cutting i)
 
     index_few : (p : Place) → IsInTile t tile p → index_in f.bounds p < length f.exits
-    index_few p i = omega (arith, index_in_below f.bounds p (in_flow p i), right.lawful.exits_size)
+    index_few p i = omega (arith, index_in_below _ p (in_flow p i), right.lawful.exits_size)
 
     exit_entry : (p : Place) → IsInTile t tile p →
         get_or f.exits (index_in f.bounds p) None ≡ exit_in f p
     exit_entry p i =
-        sym (cond-true {A = Option Place} _ _ _ (in_bounds_from f.bounds p (in_flow p i)))
+        sym (cond-true _ _ _ (in_bounds_from _ p (in_flow p i)))
 
     code_entry : (p : Place) → IsInTile t tile p → get_or f.codes (index_in f.bounds p) None ≡ code_at d p
-    code_entry p i = sym (cond-true {A = Option ℕ} _ _ _ (in_bounds_from f.bounds p (in_flow p i)))
+    code_entry p i = sym (cond-true _ _ _ (in_bounds_from _ p (in_flow p i)))
         ∙ right.same_codes p i
 
     -- The exit of a data cell p, as the flow lists it.
@@ -137,14 +137,14 @@ module _ {d : Directed} {t : Cutting} {flows : List Flow} {o : Outlets} {n : End
 
     has_exit : {p : Place} → IsInTile t tile p → IsCoded d p → Has p
     has_exit {p} i is =
-        let m = MatchOption-at_some _ _ is.code is.is (right.each p i) in
-        let x = exit_in_tile s.are_flows m.0 is m.2 in
+        let m = MatchOption-at_some _ _ _ is.is (right.each p i) in
+        let x = exit_in_tile s.are_flows _ is m.2 in
         record {
           exit = m.0;
-          listed = exit_entry p i ∙ m.1;
+          listed = cc (exit_entry p i);
           leads = m.2;
           coded = x.0;
-          inside = (within_of s.are_flows x.0, x.1 ∙ i.1);
+          inside = (within_of s.are_flows x.0, cc);
         }
 
     no_exit : (p : Place) → IsInTile t tile p → code_at d p ≡ None →
@@ -156,14 +156,14 @@ module _ {d : Directed} {t : Cutting} {flows : List Flow} {o : Outlets} {n : End
       size = cell_size;
       numbered = record {
         codes_size = right.lawful.codes_size ∙ sym right.lawful.exits_size;
-        small = omega (arith, right.lawful.exits_size, few_cells f.bounds right.lawful.few_rows right.lawful.few_cols);
+        small = omega (arith, right.lawful.exits_size, few_cells _ right.lawful.few_rows right.lawful.few_cols);
         places = λ i below.
             let tile_below : tile < tile_count t =
             omega (arith, slice_get_within flows tile f there, s.are_flows.of_tiles.count) in
             let inside = subst (λ b. IsInTile t tile (place_in b i))
             (sym right.bounds) (place_in_tile t tile i s.are_flows.cutting tile_below
             (omega (arith, below, cell_size))) in
-            numbered_place (place_in f.bounds i) inside.0;
+            numbered_place _ inside.0;
       };
     }
 
@@ -171,13 +171,7 @@ module _ {d : Directed} {t : Cutting} {flows : List Flow} {o : Outlets} {n : End
     exit_number_is : {p : Place} → IsCoded d p → (h : Has p) →
         (tile_numbers o flows n f).number (index_in f.bounds h.exit) ≡ end_number d n p
     exit_number_is is h =
-        cond-true {A = ℕ} _ _ 0 (ap is_some (code_entry h.exit h.inside ∙ h.coded.is))
-        ∙ ap (λ q. number_at o.cutting.cols n (listed_outlet o flows q))
-        (place_in-index_in f.bounds h.exit (in_flow h.exit h.inside))
-        ∙ ap (number_at o.cutting.cols n) (s.are_outlets.outlets h.exit (h.leads).4)
-        ∙ number_of_last h.exit
-        ∙ ap (λ q. n.number (index_of d.cols q))
-        (last_same s.are_flows (h.leads).0 is (h.leads).3)
+        cc (cond-true {A = ℕ} _ _ 0 (ap is_some (code_entry h.exit h.inside ∙ h.coded.is)), place_in-index_in f.bounds h.exit (in_flow h.exit h.inside), s.are_outlets.outlets h.exit (h.leads).4, number_of_last h.exit, last_same s.are_flows (h.leads).0 is (h.leads).3)
 
     -- The value at each place of the tile is the number of its path's end, `None` at NODATA.
     pub entry_numbered : {values : List (Option ℕ)} {numbers : List ℕ} →
@@ -185,13 +179,12 @@ module _ {d : Directed} {t : Cutting} {flows : List Flow} {o : Outlets} {n : End
         (p : Place) → IsInTile t tile p → IsValueAt d (end_number d n) p (tile_entry t tile values p)
     entry_numbered {values} {numbers} are made p i =
         let below = index_few p i in
-        let entry : tile_entry t tile values p
-        ≡ where_data (code_at d p) (get_or numbers (index_in f.bounds p) 0) =
+        let entry =
         tile_entry-in t tile values p i
         ∙ ap (λ b. get_or values (index_in b p) None) (sym right.bounds)
         ∙ ap (λ l. get_or l (index_in f.bounds p) None) made
         ∙ get_or-map-range_with_len (λ i. where_data (get_or f.codes i None) (get_or numbers i 0)) 0 (length f.codes)
-        (index_in f.bounds p) (index_in f.bounds p) None
+        _ _ None
         (omega (arith, below, right.lawful.codes_size, right.lawful.exits_size)) (omega arith)
         ∙ ap (λ o. where_data o (get_or numbers (index_in f.bounds p) 0))
         (code_entry p i) in
@@ -199,8 +192,7 @@ module _ {d : Directed} {t : Cutting} {flows : List Flow} {o : Outlets} {n : End
           | inl none ↦ rw none (entry ∙ ap (λ o. where_data o (get_or numbers (index_in f.bounds p) 0)) none)
           | inr is ↦
               let h = has_exit i is in
-              rw is.is (entry ∙ ap (λ o. where_data o (get_or numbers (index_in f.bounds p) 0)) is.is
-              ∙ ap Some (are.each (index_in f.bounds p) h.exit below h.listed ∙ exit_number_is is h))
+              rw is.is (cc (are.each (index_in f.bounds p) h.exit below h.listed, exit_number_is is h))
         ]
 
   pub ready : AreReady t flows o n

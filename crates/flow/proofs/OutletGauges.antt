@@ -30,13 +30,11 @@ map_ranges : {X : Type 0} (f : ℕ → X) (a n m : ℕ) → map f (range_with_le
 map_ranges f a zero m =
     let z : a + 0 ≡ a = omega arith in
     let y : m ≡ 0 + m = omega arith in
-    ap (λ k. map f (range_with_len k m)) z ∙ ap (λ k. map f (range_with_len a k)) y
+    cc
 map_ranges f a (suc n) m =
     let z : a + suc n ≡ a + 1 + n = omega arith in
     let y : suc (n + m) ≡ suc n + m = omega arith in
-    ap (λ k. f a ∷ (map f (range_with_len (a + 1) n) ++ map f (range_with_len k m))) z
-    ∙ ap (λ l. f a ∷ l) (map_ranges f (a + 1) n m)
-    ∙ ap (λ k. map f (range_with_len a k)) y
+    cc (map_ranges f (a + 1) n m)
 
 module _ (cols rows : ℕ) where
   abbrev at : ℕ → Place
@@ -86,20 +84,20 @@ module _ {X : Type 0} (f : ℕ → X) (p t : X → Bool) (j : ℕ) (here : p (f 
   filtered (suc n) a i le lt = elim (cases_eq a j) [
     | inl e ↦
         let rest = filter t (map f (range_with_len (a + 1) n)) in
-        let passes : p (f a) ≡ true = ap (λ k. p (f k)) e ∙ here in
+        let passes = ap (λ k. p (f k)) e ∙ here in
         let z : i ≡ i + 0 = omega arith in (
           0,
-          ap (position_from p i) (cond-true (t (f a)) (f a ∷ rest) rest (ap (λ k. t (f k)) e
-              ∙ kept)) ∙ cond-true (p (f a)) (Some i) (position_from p (i + 1) rest) passes
+          ap (position_from p i) (cond-true _ _ rest (ap (λ k. t (f k)) e
+              ∙ kept)) ∙ cond-true _ _ _ passes
               ∙ ap Some z,
           omega (arith, ap count e),
         )
     | inr ne ↦
         let rest = filter t (map f (range_with_len (a + 1) n)) in
-        let fails : p (f a) ≡ false = before a (omega arith) in
+        let fails = before a (omega arith) in
         elim (cases_Bool (t (f a))) [
           | inl is_t ↦
-              let r = filtered n (a + 1) (i + 1) (omega arith) (omega arith) in
+              let r = filtered n _ _ (omega arith) (omega arith) in
               let z : i + 1 + r.0 ≡ i + suc r.0 = omega arith in (
                 suc r.0,
                 ap (position_from p i) (cond-true (t (f a)) (f a ∷ rest) rest is_t) ∙ cond-false
@@ -107,19 +105,19 @@ module _ {X : Type 0} (f : ℕ → X) (p t : X → Bool) (j : ℕ) (here : p (f 
                 omega (
                   arith,
                   r.2,
-                  sum_more (λ k. cond {A = ℕ} (t (f k)) 1 0) a,
-                  cond-true {A = ℕ} (t (f a)) 1 0 is_t,
+                  sum_more (λ k. cond (t (f k)) 1 0) a,
+                  cond-true {A = ℕ} _ 1 0 is_t,
                 ),
               )
           | inr isnt_t ↦
-              let r = filtered n (a + 1) i (omega arith) (omega arith) in (
+              let r = filtered n _ i (omega arith) (omega arith) in (
                 r.0,
                 ap (position_from p i) (cond-false (t (f a)) (f a ∷ rest) rest isnt_t) ∙ r.1,
                 omega (
                   arith,
                   r.2,
-                  sum_more (λ k. cond {A = ℕ} (t (f k)) 1 0) a,
-                  cond-false {A = ℕ} (t (f a)) 1 0 isnt_t,
+                  sum_more (λ k. cond (t (f k)) 1 0) a,
+                  cond-false {A = ℕ} _ 1 0 isnt_t,
                 ),
               )
         ]
@@ -130,13 +128,13 @@ any_filtered : (p t : Place → Bool) (xs : List Place) → list_any p (filter t
 any_filtered p t [] some = absurd (false≢true some)
 any_filtered p t (x ∷ xs) some = elim (cases_Bool (t x)) [
   | inr fails ↦ any_filtered p t xs
-      (sym (ap (list_any p) (cond-false (t x) (x ∷ filter t xs) (filter t xs) fails)) ∙ some)
+      (cc (cond-false (t x) (x ∷ filter t xs) (filter t xs) fails))
   | inl holds ↦
-      let here = sym (ap (list_any p) (cond-true (t x) (x ∷ filter t xs) (filter t xs) holds))
+      let here = sym (ap (list_any p) (cond-true _ _ _ holds))
       ∙ some in
       elim (cases_Bool (p x)) [
         | inl is ↦ (x, is, holds)
-        | inr isnt ↦ any_filtered p t xs (ap (λ b. b || list_any p (filter t xs)) (sym isnt) ∙ here)
+        | inr isnt ↦ any_filtered p t xs (cc)
       ]
 ]
 
@@ -147,7 +145,7 @@ module _ {d : Directed} (s : IsEnding d) (size : length d.codes ≡ d.cols * d.r
   outlet_from : (q : Place) (o : Option ℕ) → code_at d q ≡ o → is_outlet_code o ≡ true →
       IsOutlet d q
   outlet_from q None e is = absurd (false≢true is)
-  outlet_from q (Some c) e is = e ∙ ap Some (eqb-true c 0 is)
+  outlet_from q (Some c) e is = cc (eqb-true c 0 is)
 
   index_of_cell : (k : ℕ) → index_of d.cols (cell d k) ≡ k
   index_of_cell k =
@@ -159,22 +157,20 @@ module _ {d : Directed} (s : IsEnding d) (size : length d.codes ≡ d.cols * d.r
   code_of_cell : (k : ℕ) → k < d.rows * d.cols → code_at d (cell d k) ≡ get_or d.codes k None
   code_of_cell k below =
       let w = place_in_bounds (grid_of d) k s.some_col below in
-      entry-inside d.cols d.rows d.codes (cell d k) (omega (arith, w)) (omega (arith, w))
-      ∙ ap (λ i. get_or d.codes i None) (index_of_cell k)
+      cc (entry-inside d.cols d.rows d.codes (cell d k) (omega (arith, w)) (omega (arith, w)), index_of_cell k)
 
   counted : (i : ℕ) → i ≤ d.rows * d.cols → count_by is_outlet_code (take i d.codes)
       ≡ sum_below (λ k. cond {A = ℕ} (is_outlet (cell d k)) 1 0) i
   counted zero le = refl
   counted (suc i) le =
       let turned : d.rows * d.cols ≡ d.cols * d.rows = grind arith in
-      let here : cond {A = ℕ} (is_outlet_code (get_or d.codes i None)) 1 0
-      ≡ cond {A = ℕ} (is_outlet (cell d i)) 1 0 =
+      let here =
       ap (λ (o : Option ℕ). cond {A = ℕ} (is_outlet_code o) 1 0)
       (sym (code_of_cell i (omega arith))) in
       omega (
         arith,
         ap (λ k. count_by is_outlet_code (take k d.codes)) (add-one i),
-        sum_by_more (λ (o : Option ℕ). cond {A = ℕ} (is_outlet_code o) 1 0) d.codes i None
+        sum_by_more (λ o. cond (is_outlet_code o) 1 0) d.codes i None
             (omega (arith, size, turned)),
         counted i (omega arith),
         here,
@@ -186,8 +182,8 @@ module _ {d : Directed} (s : IsEnding d) (size : length d.codes ≡ d.cols * d.r
   other_index : (q : Place) → IsCoded d q → (k : ℕ) → k < index_in (grid_of d) q →
       is_place q (cell d k) ≡ false
   other_index q is k less = false_from_ne_true _ (λ same.
-      (let e = ap (index_in (grid_of d)) (place_is q (cell d k) same)
-      ∙ index_in-place_in (grid_of d) k in omega (arith, e)))
+      let e = ap (index_in (grid_of d)) (place_is q _ same)
+      ∙ index_in-place_in (grid_of d) k in omega (arith, e))
 
   pub outlet_number : (q : Place) → IsOutlet d q →
       gauge_number (outlets d) q ≡ 1 + count_by is_outlet_code (take (index_of d.cols q) d.codes)
@@ -217,30 +213,25 @@ module _ {d : Directed} (s : IsEnding d) (size : length d.codes ≡ d.cols * d.r
     | inr isnt ↦ absurd (omega (
       arith,
       outlet_number q is,
-      ap or_zero (position_none (is_place q) 1 (outlets d) isnt),
+      ap or_zero (position_none (is_place q) 1 _ isnt),
     ))
   ]
 
   outlet_named : (q : Place) → list_any (is_place q) (outlets d) ≡ true → IsOutlet d q
   outlet_named q named =
-      let r = any_filtered (is_place q) is_outlet (places d.cols d.rows) named in
-      outlet_from q (code_at d q) refl (ap is_outlet (place_is q r.0 r.1) ∙ r.2)
+      let r = any_filtered _ is_outlet _ named in
+      outlet_from q _ refl (cc (place_is q r.0 r.1))
 
   pub basins_are : (p : Place) → IsCoded d p → catchment d (outlets d) p ≡ basin d p
   basins_are p is =
       elim (cases_first (λ q. list_any (is_place q) (outlets d)) (follow d p) (moves d)) [
         | inl w ↦
             let here = outlet_named (follow d p w.at) w.passes in
-            let last : last_of d p ≡ follow d p w.at = follow_stays d p w.at (moves d)
+            let last = follow_stays d p w.at (moves d)
             (omega (arith, w.below)) (outlet_stays d (follow d p w.at) here) in
-            ap (λ (o : Option Place). option_map_or (gauge_number (outlets d)) o 0) w.found
-            ∙ outlet_number (follow d p w.at) here
-            ∙ sym
-            (ap (λ (q : Place). 1 + count_by is_outlet_code (take (index_of d.cols q) d.codes))
-            last)
+            cc (outlet_number (follow d p w.at) here)
         | inr w ↦
             let m = reached_early s is (moves d) refl in
             absurd
-            (false≢true (sym (w.fails m.0 m.1) ∙ ap (λ q. list_any (is_place q) (outlets d)) m.3
-            ∙ named_outlet (last_of d p) (s.ends p is.code is.is)))
+            (false≢true (cc (w.fails m.0 m.1, named_outlet (last_of d p) (s.ends p is.code is.is))))
       ]

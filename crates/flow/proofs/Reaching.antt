@@ -21,12 +21,12 @@ use Rattle.flow.proofs.Coded.{IsCoded, coded_along, coded_inside, outlet_stays, 
 pub still_at : (d : Directed) (t : Cutting) (q : Place) (k : ℕ) → stays d t q k ≡ true → (l : ℕ) →
     l ≤ k → tile_of_place t (follow d q l) ≡ tile_of_place t q
 still_at d t q k still l le = eqb-true _ _ (every_in_range
-    (λ j. eqb (tile_of_place t (follow d q j)) (tile_of_place t q)) (k + 1) still l (omega arith))
+    (λ j. eqb (tile_of_place t (follow d q j)) (tile_of_place t q)) _ still l (omega arith))
 
 pub still_from : (d : Directed) (t : Cutting) (q : Place) (k : ℕ) →
     ((l : ℕ) → l ≤ k → tile_of_place t (follow d q l) ≡ tile_of_place t q) → stays d t q k ≡ true
 still_from d t q k same = all_in_range (λ j. eqb (tile_of_place t (follow d q j))
-    (tile_of_place t q)) (k + 1) (λ l lt. eq-eqb _ _ (same l (omega arith)))
+    (tile_of_place t q)) _ (λ l lt. eq-eqb _ _ (same l (omega arith)))
 
 -- A map of directions within the limits, whose flow paths all end.
 pub record IsEnding (d : Directed) : Type 0 where
@@ -58,15 +58,15 @@ module _ {d : Directed} (s : IsEnding d) where
 
   pub in_grid : {p : Place} → IsCoded d p → IsInBounds (grid_of d) p
   in_grid is = let i = coded_inside is in
-      (omega arith, omega (arith, i.0), omega arith, omega (arith, i.1))
+      omega (arith, i.0, i.1)
 
   pub cell_below : (p : Place) → IsCoded d p →
       index_in (grid_of d) p < d.rows * d.cols
-  cell_below p is = index_in_below (grid_of d) p (in_grid is)
+  cell_below p is = index_in_below _ p (in_grid is)
 
   pub cell_back : {p : Place} → IsCoded d p →
       place_in (grid_of d) (index_in (grid_of d) p) ≡ p
-  cell_back {p} is = place_in-index_in (grid_of d) p (in_grid is)
+  cell_back {p} is = place_in-index_in _ p (in_grid is)
 
   path_stop : (c : Place) → IsCoded d c → (k : ℕ) × (k < moves d) × StopsAt d c k
   path_stop c is =
@@ -85,12 +85,12 @@ module _ {d : Directed} (s : IsEnding d) where
       (m : ℕ) × (m < moves d) × (m ≤ k) × (follow d c m ≡ p)
   reached_early {c} is k way = elim (cases_lt k (moves d)) [
     | inl l ↦ (k, l, omega arith, way)
-    | inr far ↦ (let r = path_stop c is in (
+    | inr far ↦ let r = path_stop c is in (
       r.0,
       r.1,
       omega (arith, far, r.1),
-      sym (follow_stays d c r.0 k (omega (arith, far, r.1)) r.2) ∙ way,
-    ))
+      cc (follow_stays d c r.0 k (omega (arith, far, r.1)) r.2),
+    )
   ]
 
   early_move : (c : Place) → IsCoded d c → (k : ℕ) → next d (follow d c k) ≢ follow d c k →
@@ -107,11 +107,11 @@ module _ {d : Directed} (s : IsEnding d) where
       drains_through d p c ≡ true
   drains_at {c} {p} is k way =
       let m = reached_early is k way in
-      any_in_range (λ k. is_place p (follow d c k)) (moves d) m.0 m.1
-      (is_place_from p (follow d c m.0) (sym m.3))
+      any_in_range (λ k. is_place p (follow d c k)) _ _ m.1
+      (is_place_from p _ (cc))
 
   pub drains_from : (c p : Place) → drains_through d p c ≡ true → (k : ℕ) × (follow d c k ≡ p)
-  drains_from c p y = let r = some_in_range (λ k. is_place p (follow d c k)) (moves d) y in
+  drains_from c p y = let r = some_in_range (λ k. is_place p (follow d c k)) _ y in
       (r.0, sym (place_is p (follow d c r.0) r.2))
 
   -- The first k moves from q end in region `In`. The path was outside after `from` moves, and
@@ -126,14 +126,14 @@ module _ {d : Directed} (s : IsEnding d) where
     pub stays_or_enters : ((p : Place) → In p ⊎ (In p → ⊥)) → (q : Place) (k : ℕ) →
         In (follow d q k) → ((l : ℕ) → l ≤ k → In (follow d q l)) ⊎ EntersRegion In q k
     stays_or_enters cases q zero here =
-        inl (λ l le. (let z : 0 ≡ l = omega arith in subst (λ n. In (follow d q n)) z here))
-    stays_or_enters cases q (suc k) here = elim (cases (follow d q k)) [
+        inl (λ l le. (let z : 0 ≡ l = omega arith in rw (← z) here))
+    stays_or_enters cases q (suc k) here = elim (cases _) [
       | inr out ↦ inr (record {
         from = k;
         before = omega arith;
         outside = out;
         inside = λ l lt le.
-            (let z : suc k ≡ l = omega arith in subst (λ n. In (follow d q n)) z here);
+            (let z : suc k ≡ l = omega arith in rw (← z) here);
       })
       | inl y ↦ elim (stays_or_enters cases q k y) [
         | inl way ↦ inl (λ l le. last l le (λ less. way l less))
@@ -164,7 +164,7 @@ module _ {d : Directed} (s : IsEnding d) where
 
       pub never_enters : (k : ℕ) {m : ℕ} → follow d q k ≡ follow d q m →
           ((l : ℕ) → l ≤ k → In (follow d q l)) → EntersRegion In q m → ⊥
-      never_enters k {m} same way c = no_return 0 k c.from m (λ l _ le.
+      never_enters k {m} same way c = no_return 0 k _ m (λ l _ le.
           way l le) (omega arith) (omega arith) c.outside c.before same
 
       pub enters_from_one : {k m : ℕ} → follow d q k ≡ follow d q m →
@@ -172,10 +172,10 @@ module _ {d : Directed} (s : IsEnding d) where
       enters_from_one {k} {m} same a b = elim (cases_order a.from b.from) [
         | inl e ↦ e
         | inr r ↦ elim r [
-          | inl l ↦ absurd (no_return (suc a.from) k b.from m a.inside
+          | inl l ↦ absurd (no_return _ k _ m a.inside
               (omega (arith, a.before)) l b.outside b.before same)
-          | inr l ↦ absurd (no_return (suc b.from) m a.from k b.inside
-              (omega (arith, b.before)) l a.outside a.before (sym same))
+          | inr l ↦ absurd (no_return _ m _ k b.inside
+              (omega (arith, b.before)) l a.outside a.before (cc))
         ]
       ]
 
@@ -196,7 +196,7 @@ enters d t p q k = is_place p (follow d q (k + 1))
 
 module _ {d : Directed} (s : IsEnding d) (t : Cutting) (p q : Place) where
   one_on : (k : ℕ) → follow d q (k + 1) ≡ follow d q (suc k)
-  one_on k = let e : k + 1 ≡ suc k = omega arith in ap (follow d q) e
+  one_on k = let e : k + 1 ≡ suc k = omega arith in cc
 
   pub enters_from : list_any (enters d t p q) (range_with_len 0 (moves d - 1)) ≡ true →
       (k : ℕ) × (follow d q (suc k) ≡ p) × (tile_of_place t (follow d q k) ≢ tile_of_place t p)
@@ -211,7 +211,7 @@ module _ {d : Directed} (s : IsEnding d) (t : Cutting) (p q : Place) where
   pub enters_at : IsCoded d q → (k : ℕ) → follow d q (suc k) ≡ p → tile_of_place t (follow d q k)
       ≢ tile_of_place t p → list_any (enters d t p q) (range_with_len 0 (moves d - 1)) ≡ true
   enters_at is k leads apart =
-      any_in_range (enters d t p q) (moves d - 1) k
+      any_in_range _ _ k
       (early_move s q is k (λ e. apart (ap (tile_of_place t) (sym e ∙ leads))))
-      (and_from _ _ (is_place_from p (follow d q (k + 1)) (sym leads ∙ sym (one_on k)))
+      (and_from _ _ (is_place_from p _ (cc (one_on k)))
       (not_from_false _ (ne_eqb _ _ apart)))

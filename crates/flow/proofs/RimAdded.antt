@@ -32,9 +32,8 @@ added b old q amount size inside p h =
       | inr f ↦ ne_eqb _ _ (λ e. false≢true (sym f ∙ is_place_from _ _ (sym
           (place_in-index_in b q inside) ∙ ap (place_in b) e ∙ place_in-index_in b p h))) ∙ sym f
     ] in
-    added_at old (index_in b q) amount (index_in b p)
-    (omega (arith, index_in_below b q inside, size))
-    ∙ ap (λ x. get_or old (index_in b p) 0 + cond x amount 0) same
+    cc (added_at old (index_in b q) amount (index_in b p)
+    (omega (arith, index_in_below b q inside, size)))
 
 pub own_adds : (q : Place) (amount : ℕ) → adds_at (Some q) amount q ≡ amount
 own_adds q amount = cond-true _ amount 0 (is_place_from q q refl)
@@ -57,13 +56,12 @@ module _ {t : Cutting} (h : IsCutting t) (listed : List ℕ) where
   own : (p : Place) → IsWithin t p → adds t listed (tile_of_place t p)
       (side_number (bounds_of t 0) (own_bounds t p) p) p ≡ inflow_by t listed p
   own p w =
-      let amount : ℕ = get_or listed (rim_number t p) 0 in
-      let side : ℕ = side_number (bounds_of t 0) (own_bounds t p) p in
-      let i = in_bounds t (tile_of_place t p) p h (w, refl) in
-      let below = side_below (bounds_of t 0) (own_bounds t p) p
-      (no_wider t h (tile_of_place t p)) (no_higher t h (tile_of_place t p)) i in
-      let place : rim_place t (rim_number t p)
-      ≡ side_place (bounds_of t 0) (own_bounds t p) side =
+      let amount = get_or listed (rim_number t p) 0 in
+      let side = side_number (bounds_of t 0) (own_bounds t p) p in
+      let i = in_bounds t _ p h (w, refl) in
+      let below = side_below (bounds_of t 0) _ p
+      (no_wider t h _) (no_higher t h _) i in
+      let place =
       ap (λ n. side_place (bounds_of t 0) (bounds_of t n) (rim_number t p % stride (bounds_of t 0)))
       (div-mul-add (tile_of_place t p) (stride (bounds_of t 0)) side below)
       ∙ ap (λ n. side_place (bounds_of t 0) (own_bounds t p) n)
@@ -73,20 +71,20 @@ module _ {t : Cutting} (h : IsCutting t) (listed : List ℕ) where
             (own_bounds t p) p i (sym place ∙ place_is _ _ y))
             ∙ own_adds p amount ∙ sym (cond-true _ amount 0 y)
         | inr f ↦
-            adds_off (side_cell (bounds_of t 0) (own_bounds t p) side) amount p
+            adds_off _ amount p
             (λ q is e. false≢true (sym f ∙ is_place_from _ _ (place
-            ∙ (cell_from (bounds_of t 0) (own_bounds t p) side q is).place ∙ e)))
+            ∙ (cell_from (bounds_of t 0) _ side q is).place ∙ e)))
             ∙ sym (cond-false _ amount 0 f)
       ]
 
   all_adds : (p : Place) → IsWithin t p → sum_below (λ k. adds t listed (tile_of_place t p) k p)
       (stride (bounds_of t 0)) ≡ inflow_by t listed p
   all_adds p w =
-      let i = in_bounds t (tile_of_place t p) p h (w, refl) in
-      one_term (λ k. adds t listed (tile_of_place t p) k p) (stride (bounds_of t 0))
-      (side_number (bounds_of t 0) (own_bounds t p) p)
-      (side_below (bounds_of t 0) (own_bounds t p) p
-      (no_wider t h (tile_of_place t p)) (no_higher t h (tile_of_place t p)) i)
+      let i = in_bounds t _ p h (w, refl) in
+      one_term (λ k. adds t listed _ k p) _
+      _
+      (side_below (bounds_of t 0) _ p
+      (no_wider t h _) (no_higher t h _) i)
       (λ j l ne. only_own p w j ne)
       ∙ own p w
 
@@ -102,7 +100,7 @@ module _ {t : Cutting} (h : IsCutting t) (listed : List ℕ) where
   adds_part tile p i m le = omega (
     arith,
     adds_sum tile p i,
-    sum_below-part (λ k. adds t listed tile k p) m (stride (bounds_of t 0)) le,
+    sum_below-part (λ k. adds t listed tile k p) m _ le,
   )
 
 module _ {t : Cutting} (h : IsCutting t) (listed : List ℕ) (tile : ℕ) (below : tile < tile_count t)
@@ -120,9 +118,7 @@ module _ {t : Cutting} (h : IsCutting t) (listed : List ℕ) (tile : ℕ) (below
       amount ≡ get_or listed (tile * stride (bounds_of t 0) + side) 0 → (p : Place) →
       adds_at cell amount p ≡ adds t listed tile side p
   one_added e side {amount = amount} is much p =
-      ap (λ o. adds_at o amount p) (is
-      ∙ ap (λ (z : Bounds). side_cell (bounds_of t 0) z side) e)
-      ∙ ap (λ n. adds_at (side_cell (bounds_of t 0) (bounds_of t tile) side) n p) much
+      cc is
 
   pub adds_fit : {b : Bounds} → b ≡ bounds_of t tile → (weights : List ℕ) (side : ℕ)
       {cell : Option Place} {amount : ℕ} → cell ≡ side_cell (bounds_of t 0) b side →
@@ -148,8 +144,7 @@ module _ {t : Cutting} (h : IsCutting t) (listed : List ℕ) (tile : ℕ) (below
       ((p : Place) → IsInBounds b p → get_or new (index_in b p) 0 ≡ get_or weights (index_in b p) 0
       + adds_at cell amount p) → AreAdded new (side + 1)
   adds_more {b} e weights new side {cell} {amount} is much so_far each p i =
-      let one : get_or new (index_in (bounds_of t tile) p) 0
-      ≡ get_or weights (index_in (bounds_of t tile) p) 0 + adds_at cell amount p =
+      let one =
       rw e at each p i in
       omega (
         arith,

@@ -40,14 +40,14 @@ module _ {d : Directed} {t : Cutting} {flows : List Flow} (s : AreFlowsOf d t fl
   leaves_at q e x m way cr = elim (cases_lt m x.0) [
     | inl l ↦ (let at : (j : ℕ) → j < x.0 + 1 → tile_of_place t (follow d q j) ≡ tile_of_place t q =
         λ j h. eqb-true _ _ (every_in_range
-        (λ j. eqb (tile_of_place t (follow d q j)) (tile_of_place t q)) (x.0 + 1) x.2 j h) in
+        (λ j. eqb (tile_of_place t (follow d q j)) (tile_of_place t q)) _ x.2 j h) in
         absurd (cr.apart (ap (λ p. tile_of_place t (next d p)) (sym way) ∙ at (suc m) (omega arith)
         ∙ sym (at m (omega arith)) ∙ ap (tile_of_place t) way)))
     | inr far ↦ elim (cases_eq m x.0) [
-      | inl same ↦ inl (sym way ∙ ap (follow d q) same ∙ x.3)
+      | inl same ↦ inl (cc)
       | inr ne ↦ elim x.4.1 [
         | inl out ↦ inl (sym way
-            ∙ follow_stays d q x.0 m far (ap (next d) x.3 ∙ outlet_stays d e out ∙ sym x.3) ∙ x.3)
+            ∙ follow_stays d q _ m far (cc (outlet_stays d e out)) ∙ x.3)
         | inr apart ↦ inr (x.0, omega (arith, ne), x.3, apart)
       ]
     ]
@@ -60,17 +60,17 @@ module _ {d : Directed} {t : Cutting} {flows : List Flow} (s : AreFlowsOf d t fl
   weight_targeted j q e =
       let x = (target_from s j q e).crosses in
       let w = within_of s x.coded in
-      let f = flow_of s (rim_place t j) w in
-      let entry = MatchOption-at_some _ _ x.coded.code x.coded.is ((counts.each
-      (tile_of_place t (rim_place t j)) f.flow f.is).each (rim_place t j) (w, refl)) in
+      let f = flow_of s _ w in
+      let entry = MatchOption-at_some _ _ _ x.coded.is ((counts.each
+      _ _ f.is).each (rim_place t j) (w, refl)) in
       ap (weight_or (through_by t flows (rim_place t j))) e
-      ∙ ap (λ (o : Option Flow).
-      unwrap_or (option_and_then (λ (z : Flow). through_in z (rim_place t j)) o) 0 + 1) f.is
-      ∙ ap (λ (o : Option ℕ). unwrap_or o 0 + 1) entry
+      ∙ ap (λ o.
+      unwrap_or (option_and_then (λ z. through_in z (rim_place t j)) o) 0 + 1) f.is
+      ∙ ap (λ o. unwrap_or o 0 + 1) entry
       ∙ sym (through_is ending t x.coded)
 
   pub weight_untargeted : (j : ℕ) → target_by t flows j ≡ None → rim_weight t flows j ≡ 0
-  weight_untargeted j e = ap (weight_or (through_by t flows (rim_place t j))) e
+  weight_untargeted j e = cc
 
   pub weight_few : (j : ℕ) → rim_weight t flows j ≤ 16777216
   weight_few j = elim (cases_option (target_by t flows j)) [
@@ -90,7 +90,7 @@ module _ {d : Directed} {t : Cutting} {flows : List Flow} (s : AreFlowsOf d t fl
         let at = link_at s made j h in
         elim (cases_option (target_by t flows j)) [
           | inl none ↦ absurd (l.1 (sym (at ∙ untargeted s j none) ∙ l.0))
-          | inr q ↦ elim (next_or_last_exit s j q.0 q.1) [
+          | inr q ↦ elim (next_or_last_exit s j _ q.1) [
             | inr stop ↦ absurd (l.1 (sym (at ∙ stop.link) ∙ l.0))
             | inl g ↦ (g, sym (at ∙ g.link) ∙ l.0, q.0, q.1)
           ]
@@ -102,11 +102,7 @@ module _ {d : Directed} {t : Cutting} {flows : List Flow} (s : AreFlowsOf d t fl
         next_node links (rim_number t e) ≡ rim_number t (exit_here s is).0
     link_on {e} c is to =
         let x = exit_here s is in
-        link_at s made (rim_number t e) (to_below s c)
-        ∙ ap (λ o. number_or t (rim_number t e)
-        (option_and_then (next_exit_by t flows) o)) (target_on s c)
-        ∙ ap (number_or t (rim_number t e)) (x.1.out
-        ∙ cond-false _ None (Some x.0) (not_outlet s to))
+        cc (link_at s made (rim_number t e) (to_below s c), target_on s c, cond-false _ None (Some x.0) (not_outlet s to))
 
     -- A flow path from cell c to exit i stays in the tile of c, or passes exactly one other exit
     -- linked to i.
@@ -122,13 +118,12 @@ module _ {d : Directed} {t : Cutting} {flows : List Flow} (s : AreFlowsOf d t fl
           ((k : ℕ) → follow d c k ≡ rim_place t i → (x : EntersRegion ending In c k) →
           follow d c x.from ≡ rim_place t j → rim_number t (rim_place t j) ≡ j → ⊥) → term j ≡ 0
       term_off j h none = elim (cases_Bool (leads_to links j i)) [
-        | inr n ↦ cond-false {A = ℕ} _ _ 0 n
-        | inl y ↦ cond-true {A = ℕ} _ _ 0 y ∙ counted_off d c
-            (false_from_ne_true _ (λ z. (let m = drains_from ending c (rim_place t j) z in
+        | inr n ↦ cond-false _ _ 0 n
+        | inl y ↦ cond-true _ _ 0 y ∙ counted_off d c
+            (false_from_ne_true _ (λ z. let m = drains_from ending c _ z in
             let o = leads_out i j h y in
-            let x = target_from s j o.2 o.3 in
-            crosses_over j m.0 m.1 o.0 (sym (back s o.0.crosses) ∙ ap
-            (rim_place t) o.1) x.crosses.apart (λ k at comes from. none k at comes from x.number))))
+            let x = target_from s j _ o.3 in
+            crosses_over j _ m.1 o.0 (cc (back s o.0.crosses)) x.crosses.apart (λ k at comes from. none k at comes from x.number)))
       ]
         where
           crosses_over : (j m : ℕ) →
@@ -137,14 +132,14 @@ module _ {d : Directed} {t : Cutting} {flows : List Flow} (s : AreFlowsOf d t fl
               ((k : ℕ) → follow d c k ≡ rim_place t i → (x : EntersRegion ending In c k) →
               follow d c x.from ≡ rim_place t j → ⊥) → ⊥
           crosses_over j m at g same apart none =
-              let on : (l : ℕ) → follow d c (m + suc l) ≡ follow d (next d (rim_place t j)) l =
-              λ l. sym (follow_more d c m (suc l)) ∙ ap (λ p. follow d p (suc l)) at
-              ∙ sym (follow_first d (rim_place t j) l) in
-              let last : follow d (next d (rim_place t j)) g.steps ≡ rim_place t i =
-              follow_first d (rim_place t j) g.steps ∙ g.way ∙ same in
-              let still : (l : ℕ) → l ≤ g.steps → In (follow d (next d (rim_place t j)) l) =
-              λ l le. still_at d t (next d (rim_place t j)) g.steps g.still l le
-              ∙ sym (still_at d t (next d (rim_place t j)) g.steps g.still g.steps (omega arith))
+              let on : (l : ℕ) → follow d c (m + suc l) ≡ follow d (next d _) l =
+              λ l. sym (follow_more d c m _) ∙ ap (λ p. follow d p (suc l)) at
+              ∙ sym (follow_first d _ l) in
+              let last =
+              follow_first d _ _ ∙ g.way ∙ same in
+              let still : (l : ℕ) → l ≤ g.steps → In _ =
+              λ l le. still_at d t _ _ g.still l le
+              ∙ sym (still_at d t _ g.steps g.still g.steps (omega arith))
               ∙ ap (tile_of_place t) last in
               none (m + suc g.steps) (on g.steps ∙ last) (record {
                 from = m;
@@ -159,13 +154,13 @@ module _ {d : Directed} {t : Cutting} {flows : List Flow} (s : AreFlowsOf d t fl
           (k : ℕ) × (follow d c k ≡ rim_place t i) × ((l : ℕ) → l ≤ k → In (follow d c l))
       reached y =
           let r = some_in_range (λ k. is_place (rim_place t i) (follow d c k)
-          && stays d t c k) (moves d) y in
+          && stays d t c k) _ y in
           let w = and_parts _ _ r.2 in
-          let at : follow d c r.0 ≡ rim_place t i =
-          sym (place_is (rim_place t i) (follow d c r.0) w.0) in (
+          let at =
+          sym (place_is _ _ w.0) in (
             r.0,
             at,
-            λ l le. still_at d t c r.0 w.1 l le ∙ sym (still_at d t c r.0 w.1 r.0 (omega arith))
+            λ l le. still_at d t c _ w.1 l le ∙ sym (still_at d t c _ w.1 _ (omega arith))
                 ∙ ap (tile_of_place t) at,
           )
 
@@ -176,31 +171,31 @@ module _ {d : Directed} {t : Cutting} {flows : List Flow} (s : AreFlowsOf d t fl
           arith,
           counted_off d c n,
           counted_off d c
-              (false_from_ne_true _ (λ y. (let r = reached y in
-              false≢true (sym n ∙ drains_at ending is r.0 r.1)))),
+              (false_from_ne_true _ (λ y. let r = reached y in
+              false≢true (sym n ∙ drains_at ending is _ r.1))),
           sum_below-none term (length links) (λ j l.
               term_off j (omega (arith, l, links_size s made))
               (λ k way _ _ _. false≢true (sym n ∙ drains_at ending is k way))),
         )
-        | inl y ↦ (let m = drains_from ending c (rim_place t i) y in
-            elim (stays_or_enters ending In (λ p. cases_eq (tile_of_place t p)
-            (tile_of_place t (rim_place t i))) c m.0 (ap (tile_of_place t) m.1)) [
+        | inl y ↦ let m = drains_from ending c _ y in
+            elim (stays_or_enters ending In (λ p. cases_eq _
+            _) c _ (ap (tile_of_place t) m.1)) [
               | inl way ↦
-                  let r = reached_early ending is m.0 m.1 in
+                  let r = reached_early ending is _ m.1 in
                   omega (
                     arith,
                     counted_on is y,
                     counted_on is (any_in_range (λ k.
-                        is_place (rim_place t i) (follow d c k) && stays d t c k) (moves d) r.0 r.1
-                        (and_from _ _ (is_place_from (rim_place t i) (follow d c r.0) (sym r.3))
-                        (still_from d t c r.0 (λ l le. way l (omega (arith, le, r.2))
+                        is_place (rim_place t i) (follow d c k) && stays d t c k) _ _ r.1
+                        (and_from _ _ (is_place_from _ _ (sym r.3))
+                        (still_from d t c _ (λ l le. way l (omega (arith, le, r.2))
                         ∙ sym (way 0 (omega arith)))))),
                     sum_below-none term (length links) (λ j l.
                         term_off j (omega (arith, l, links_size s made))
-                        (λ k at x _ _. never_enters ending In is m.0 (m.1 ∙ sym at) way x)),
+                        (λ k at x _ _. never_enters ending In is _ (m.1 ∙ sym at) way x)),
                   )
-              | inr x ↦ from_outside y m.0 m.1 x
-            ])
+              | inr x ↦ from_outside y _ m.1 x
+            ]
       ]
         where
           -- The exit by which the flow path of c last enters the tile of exit i, before it reaches
@@ -213,12 +208,12 @@ module _ {d : Directed} {t : Cutting} {flows : List Flow} (s : AreFlowsOf d t fl
               let coded = coded_along s.ends is (suc x.from) in
               let e = exit_here s coded in
               let here = target_from s i q target in
-              let on : (l : ℕ) → follow d (next d (follow d c x.from)) l
-              ≡ follow d c (suc x.from + l) = λ l. follow_more d c (suc x.from) l in
+              let on : (l : ℕ) → follow d (next d _) l
+              ≡ follow d c (suc x.from + l) = λ l. follow_more d c _ l in
               let all : suc x.from + (k - suc x.from) ≡ k = omega (arith, x.before) in
               let same : rim_place t i ≡ e.0 =
-              elim (leaves_at (next d (follow d c x.from)) e.0 e.1.leads
-              (k - suc x.from) (on (k - suc x.from) ∙ ap (follow d c) all ∙ at) here.crosses) [
+              elim (leaves_at _ _ e.1.leads
+              _ (on _ ∙ ap (follow d c) all ∙ at) here.crosses) [
                 | inl y ↦ y
                 | inr far ↦ absurd (far.3 (ap (λ p. tile_of_place t (next d p)) (sym far.2)
                     ∙ ap (tile_of_place t) (on (suc far.0))
@@ -233,24 +228,24 @@ module _ {d : Directed} {t : Cutting} {flows : List Flow} (s : AreFlowsOf d t fl
               drained d (rim_place t i) c ≡ drained_inside d t (rim_place t i) c
               + sum_below term (length links)
           from_outside y k at x =
-              let entry : In (next d (follow d c x.from)) =
+              let entry =
               x.inside (suc x.from) (omega arith) (omega (arith, x.before)) in
               let cr : LeavesTile s (follow d c x.from) = record {
-                coded = coded_along s.ends is x.from;
+                coded = coded_along s.ends is _;
                 apart = λ z. x.outside (sym z ∙ entry);
               } in
-              let place : rim_place t (rim_number t (follow d c x.from)) ≡ follow d c x.from =
+              let place =
               back s cr in
-              let leads : leads_to links (rim_number t (follow d c x.from)) i ≡ true =
+              let leads =
               leads_from links _ (linked k at x cr) (λ z.
               x.outside (ap (tile_of_place t) (sym place ∙ ap (rim_place t) z))) in
               omega (
                 arith,
                 counted_on is y,
                 counted_off d c
-                    (false_from_ne_true _ (λ z. (let r = reached z in
-                    never_enters ending In is r.0 (r.1 ∙ sym at) r.2 x))),
-                one_term term (length links) (rim_number t (follow d c x.from)) (omega (
+                    (false_from_ne_true _ (λ z. let r = reached z in
+                    never_enters ending In is _ (r.1 ∙ sym at) r.2 x)),
+                one_term term (length links) _ (omega (
                   arith,
                   to_below s cr,
                   links_size s made,
@@ -261,31 +256,32 @@ module _ {d : Directed} {t : Cutting} {flows : List Flow} (s : AreFlowsOf d t fl
                     (enters_from_one ending In is (there ∙ sym at) z x))))),
                 cond-true _ (drained d (rim_place t (rim_number t (follow d c x.from))) c) 0 leads,
                 counted_on
-                    is (drains_at ending is x.from (sym place)),
+                    is (drains_at ending is _ (sym place)),
               )
 
     none_leads : (i j : ℕ) → target_by t flows i ≡ None → j < rim_number_count t →
         leads_to links j i ≡ false
-    none_leads i j none h = false_from_ne_true _ (λ y. (let o = leads_out i j h y in
-        none-some (next d o.0.to) (sym none ∙ ap (target_by t flows) (sym o.1)
-        ∙ target_on s o.0.crosses)))
+    none_leads i j none h = false_from_ne_true _ (λ y. let o = leads_out i j h y in
+        none-some (next d o.0.to) (cc (target_on s o.0.crosses)))
 
     -- As many cells drain through exit i as reach it inside its tile or by exits linked to it.
     tallied : (i : ℕ) (q : Place) → target_by t flows i ≡ Some q →
         all_drained d (rim_place t i) ≡ all_drained_inside d t (rim_place t i)
         + upstream_sum links (λ j. all_drained d (rim_place t j)) i
     tallied i q e = counts_upstream d links i (λ j. drains_through d (rim_place t j))
-        (drained_inside d t (rim_place t i)) (λ c is. parts i q e is) (λ c none. counted_none d c _ none)
+        _ (λ c is. parts i q e is) (λ c none. counted_none d c _ none)
 
     module _ {weights : List ℕ} (weighed : weights ≡ rim_weights_by t flows) where
       pub weights_size : length weights ≡ rim_number_count t
       weights_size = ap length weighed
-          ∙ length-map-range_with_len (rim_weight t flows) 0 (rim_number_count t)
+          ∙ length-map-range_with_len _ 0 _
 
       weight_at : (i : ℕ) → i < rim_number_count t → get_or weights i 0 ≡ rim_weight t flows i
-      weight_at i h = ap (λ (l : List ℕ). get_or l i 0) weighed
-          ∙ get_or-map-range_with_len (rim_weight t flows) 0 (rim_number_count t) i i 0 h
-          (omega arith)
+      weight_at i h = cc (
+        weighed,
+        get_or-map-range_with_len (rim_weight t flows) 0 (rim_number_count t) i i 0 h
+            (omega arith),
+      )
 
       numbered : (i : ℕ) → i < length links → i < rim_number_count t
       numbered i h = omega (arith, h, links_size s made)
@@ -304,8 +300,8 @@ module _ {d : Directed} {t : Cutting} {flows : List Flow} (s : AreFlowsOf d t fl
             weight_at i (numbered i l),
             weight_targeted i q e,
             tallied i q e,
-            sums_same links i (total_within links weights k) (λ j. all_drained d (rim_place t j))
-                (λ j m on. (let o = leads_out i j (numbered j m) on in before j m on o.2 o.3)),
+            sums_same links i _ (λ j. all_drained d (rim_place t j))
+                (λ j m on. let o = leads_out i j (numbered j m) on in before j m on _ o.3),
           ))
           i (linked i h) q e
 

@@ -17,8 +17,7 @@ and_on false t = refl
 
 waiting-open : (links waits : List ℕ) (i j : ℕ) → has_sent waits j ≡ false →
     waiting links waits i j ≡ donor links i j
-waiting-open links waits i j f = ap (λ x.
-    cond {A = ℕ} x 1 0) (and_on (leads_to links j i) (not_from_false _ f))
+waiting-open links waits i j f = cc (and_on (leads_to links j i) (not_from_false _ f))
 
 waiting-sent : (links waits : List ℕ) (i j : ℕ) → has_sent waits j ≡ true →
     waiting links waits i j ≡ 0
@@ -30,13 +29,12 @@ sent_on-open links waits totals i j f = cond-false _ _ _ (and_right _ _ f)
 
 sent_on-all : (links waits totals : List ℕ) (i j : ℕ) → has_sent waits j ≡ true →
     sent_on links waits totals i j ≡ upstream links j i (get_or totals j 0)
-sent_on-all links waits totals i j t = ap (λ x. cond x (get_or totals j 0) 0)
-    (and_on (leads_to links j i) t)
+sent_on-all links waits totals i j t = cc (and_on (leads_to links j i) t)
 
 awaited_from : (links waits : List ℕ) (i j : ℕ) → 0 < waiting links waits i j →
     (leads_to links j i ≡ true) × (has_sent waits j ≡ false)
 awaited_from links waits i j h = elim (cases_Bool (leads_to links j i && not (has_sent waits j))) [
-  | inl y ↦ (let w = and_parts _ _ y in (w.0, not-true _ w.1))
+  | inl y ↦ let w = and_parts _ _ y in (w.0, not-true _ w.1)
   | inr n ↦ absurd (omega (arith, cond-false {A = ℕ} _ 1 0 n))
 ]
 
@@ -48,7 +46,7 @@ open_from_count waits i l = ne_eqb _ _ (λ e. omega (arith, e))
 pub leads_test : (links : List ℕ) (node : ℕ) {next : ℕ} (i : ℕ) → next ≡ next_node links node → next ≢ node →
     leads_to links node i ≡ eqb next i
 leads_test links node {next} i is ne = elim (cases_eq next i) [
-  | inl e ↦ leads_from links node (sym is ∙ e) (λ z. ne (e ∙ sym z)) ∙ sym (eq-eqb next i e)
+  | inl e ↦ leads_from links node (cc) (λ z. ne (cc)) ∙ sym (eq-eqb next i e)
   | inr off ↦ and_left _ _ (ne_eqb _ _ (λ z. off (is ∙ z))) ∙ sym (ne_eqb next i off)
 ]
 
@@ -65,7 +63,7 @@ added_at xs k v i h = elim (cases_eq k i) [
   )
   | inr ne ↦ omega (
     arith,
-    get_or-set_other xs k i (get_or xs k 0 + v) 0 (λ e. ne (sym e)),
+    get_or-set_other xs k i (get_or xs k 0 + v) 0 (λ e. ne (cc)),
     cond-false _ v 0 (ne_eqb k i ne),
   )
 ]
@@ -86,9 +84,9 @@ all_sent {links = links} {waits = waits} s some =
     (λ _ i h before. true_from_ne_false _ (λ f.
     (let above : 0 < sum_below (waiting links waits i) (length links) =
     omega (arith, some i h, s.counts i h f) in
-    let j = some_term (waiting links waits i) (length links) above in
-    let a = awaited_from links waits i j.0 j.2 in
-    false≢true (sym a.1 ∙ before j.0 j.1 a.0))))
+    let j = some_term _ _ above in
+    let a = awaited_from links waits i _ j.2 in
+    false≢true (sym a.1 ∙ before _ j.1 a.0))))
 
 pub sums_from : (links weights waits totals : List ℕ) → IsSending links weights waits totals →
     ((i : ℕ) → i < length links → get_or waits i 0 ≢ 0) → AreSums links weights totals
@@ -98,7 +96,7 @@ sums_from links weights waits totals s some = record {
     each = λ i h. omega (
       arith,
       s.sums i h,
-      sum_below-same (sent_on links waits totals i) (λ j. upstream links j i (get_or totals j 0)) (length links) (λ j l.
+      sum_below-same _ (λ j. upstream links j i (get_or totals j 0)) _ (λ j l.
           sent_on-all links waits totals i j (all_sent s some j l)),
     );
   }) i h);
@@ -124,14 +122,14 @@ marks_begin links weights waits streams few size fits node m marked = record {
   waits_size = m.size;
   totals_size = size;
   counts = λ i h f.
-      omega (arith, m.each i h, cond-false {A = ℕ} _ 0 (get_or waits i 0) f, cond_same (eqb node i));
-  sums = λ i h. omega (arith, sum_below-none (sent_on links waits weights i) (length links) (none i));
+      omega (arith, m.each i h, cond-false _ 0 (get_or waits i 0) f, cond_same (eqb node i));
+  sums = λ i h. omega (arith, sum_below-none _ _ (none i));
   closed = λ i j h l on t. true_from_ne_false _ (λ f. omega (
     arith,
     m.each i h,
-    cond-true {A = ℕ} _ 0 (get_or waits i 0) t,
+    cond-true _ 0 (get_or waits i 0) t,
     cond_same (eqb node i),
-    term-le-sum_below (waiting links waits i) (length links) j l,
+    term-le-sum_below (waiting links waits i) _ j l,
     waiting-open links waits i j f,
     cond-true {A = ℕ} _ 1 0 on,
   ));
@@ -157,16 +155,16 @@ donors_begin links weights waits streams few size fits d =
       arith,
       few,
       d.each i h,
-      sum_below-few (donor links i) (length links) (λ j l. bit_le (leads_to links j i)),
+      sum_below-few (donor links i) (length links) (λ j l. bit_le _),
     )) in
     marks_begin links weights waits streams few size fits 0 (record {
       size = d.size;
       each = λ i h. omega (
         arith,
         d.each i h,
-        cond-false {A = ℕ} _ 0 (get_or waits i 0) (low i h),
+        cond-false _ 0 (get_or waits i 0) (low i h),
         cond_same (eqb 0 i),
-        sum_below-same (donor links i) (waiting links waits i) (length links)
+        sum_below-same _ _ _
             (λ j l. sym (waiting-open links waits i j (low j l))),
       );
     }) (λ i h ne e. false≢true (sym (low i h) ∙ eq-eqb _ _ e))
@@ -180,14 +178,14 @@ module _ {links waits : List ℕ} (few : length links ≤ 2 ^ 30) {node donors :
     m.each node inside,
     cond-true _ donors 0 (eq-eqb node node refl),
     sum_below-few (waiting links waits node) (length links) (λ j l.
-        bit_le (leads_to links j node && not (has_sent waits j))),
+        bit_le _),
   )
 
   pub entry_new : get_or waits node 0 ≡ sent_entry → donors ≡ noted waits node + donors
-  entry_new new = omega (arith, cond-true {A = ℕ} _ 0 (get_or waits node 0) (eq-eqb _ _ new))
+  entry_new new = omega (arith, cond-true _ 0 (get_or waits node 0) (eq-eqb _ _ new))
 
   pub entry_added : IsMarked waits node → get_or waits node 0 + donors ≡ noted waits node + donors
-  entry_added was = omega (arith, cond-false {A = ℕ} _ 0 (get_or waits node 0) (ne_eqb _ _ was))
+  entry_added was = omega (arith, cond-false _ 0 (get_or waits node 0) (ne_eqb _ _ was))
 
   pub entry_fits : IsMarked waits node → get_or waits node 0 + donors < 2 ^ 32
   entry_fits was = omega (arith, entry_added was, donors_few, few)
@@ -204,19 +202,19 @@ module _ {links waits : List ℕ} (few : length links ≤ 2 ^ 30) {node donors :
     ))
 
     same_mark : (j : ℕ) → j ≢ node → has_sent (set waits node entry) j ≡ has_sent waits j
-    same_mark j ne = ap (λ n. eqb n sent_entry) (get_or-set_other waits node j entry 0 ne)
+    same_mark j ne = cc (get_or-set_other waits node j entry 0 ne)
 
     set_marked : IsMarked (set waits node entry) node
     set_marked e = false≢true (sym open_now ∙ eq-eqb _ _ e)
 
     pub set_kept : (i : ℕ) → IsMarked waits i → IsMarked (set waits node entry) i
     set_kept i was = elim (cases_eq i node) [
-      | inl e ↦ (λ z. set_marked (sym (ap (λ n. get_or (set waits node entry) n 0) e) ∙ z))
-      | inr ne ↦ (λ z. was (sym (get_or-set_other waits node i entry 0 ne) ∙ z))
+      | inl e ↦ λ z. set_marked (cc)
+      | inr ne ↦ λ z. was (cc (get_or-set_other waits node i entry 0 ne))
     ]
 
     pub set_from : (from : ℕ) → (node ≡ from) ⊎ IsMarked waits from → IsMarked (set waits node entry) from
-    set_from from (inl e) = subst (λ n. IsMarked (set waits node entry) n) e set_marked
+    set_from from (inl e) = rw (← e) set_marked
     set_from from (inr was) = set_kept from was
 
     noted_all : (i : ℕ) → i < length links →
@@ -225,7 +223,7 @@ module _ {links waits : List ℕ} (few : length links ≤ 2 ^ 30) {node donors :
       | inl e ↦ omega (
         arith,
         ap (noted (set waits node entry)) e,
-        cond-false {A = ℕ} _ 0 (get_or (set waits node entry) node 0) open_now,
+        cond-false _ 0 (get_or (set waits node entry) node 0) open_now,
         get_or-set_same waits node entry 0 (omega (arith, m.size, inside)),
         counts,
         m.each node inside,
@@ -234,10 +232,10 @@ module _ {links waits : List ℕ} (few : length links ≤ 2 ^ 30) {node donors :
       )
       | inr ne ↦ omega (
         arith,
-        ap (λ b. cond {A = ℕ} b 0 (get_or (set waits node entry) i 0)) (same_mark i ne),
-        ap (λ n. cond {A = ℕ} (has_sent waits i) 0 n) (get_or-set_other waits node i entry 0 ne),
+        ap (λ b. cond b 0 (get_or (set waits node entry) i 0)) (same_mark i ne),
+        ap (λ n. cond (has_sent waits i) 0 n) (get_or-set_other waits node i entry 0 ne),
         m.each i h,
-        cond-false _ donors 0 (ne_eqb node i (λ e. ne (sym e))),
+        cond-false _ donors 0 (ne_eqb node i (λ e. ne (cc))),
       )
     ]
 
@@ -251,13 +249,13 @@ module _ {links waits : List ℕ} (few : length links ≤ 2 ^ 30) {node donors :
           | inr ne ↦ same_mark j ne
         ] in
         record {
-          size = length-set waits node entry ∙ m.size;
+          size = cc (length-set waits node entry);
           each = λ i h. omega (
             arith,
             noted_all i h,
             cond_same (eqb 0 i),
             sum_below-same (waiting links (set waits node entry) i) (waiting links waits i) (length links)
-                (λ j l. ap (λ b. cond {A = ℕ} (leads_to links j i && not b) 1 0) (same j)),
+                (λ j l. cc (same j)),
           );
         }
 
@@ -267,23 +265,23 @@ module _ {links waits : List ℕ} (few : length links ≤ 2 ^ 30) {node donors :
       marked_sum i h = omega (
         arith,
         noted_all i h,
-        sum_below-except (waiting links (set waits node entry) i) (waiting links waits i) (length links) node inside
-            (λ j l ne. ap (λ b. cond {A = ℕ} (leads_to links j i && not b) 1 0) (same_mark j ne)),
+        sum_below-except (waiting links (set waits node entry) i) (waiting links waits i) _ node inside
+            (λ j l ne. cc (same_mark j ne)),
         waiting-sent links waits i node (eq-eqb _ _ new),
-        waiting-open links (set waits node entry) i node open_now,
+        waiting-open links _ i node open_now,
       )
 
       pub mark_on : {next : ℕ} → next ≡ get_or links node 0 → next ≢ node →
           AreMarks links (set waits node entry) next 1
       mark_on {next} is ne = record {
-        size = length-set waits node entry ∙ m.size;
+        size = cc (length-set waits node entry);
         each = λ i h. omega
             (arith, marked_sum i h, ap (λ b. cond {A = ℕ} b 1 0) (leads_test links node i is ne));
       }
 
       pub mark_end : get_or links node 0 ≡ node → AreMarks links (set waits node entry) 0 0
       mark_end end = record {
-        size = length-set waits node entry ∙ m.size;
+        size = cc (length-set waits node entry);
         each = λ i h. omega (
           arith,
           marked_sum i h,
@@ -297,9 +295,9 @@ marks_none links waits none = record {
   size = none.size;
   each = λ i h. omega (
     arith,
-    cond-true {A = ℕ} _ 0 (get_or waits i 0) (eq-eqb _ _ (none.each i h)),
+    cond-true _ 0 (get_or waits i 0) (eq-eqb _ _ (none.each i h)),
     cond_same (eqb 0 i),
-    sum_below-none (waiting links waits i) (length links)
+    sum_below-none _ _
         (λ j l. waiting-sent links waits i j (eq-eqb _ _ (none.each j l))),
   );
 }
@@ -326,12 +324,12 @@ module _ {links weights waits totals : List ℕ} (s : IsSending links weights wa
   -- A node's total so far is at most its total.
   so_far_le : (i : ℕ) → i < length links → get_or totals i 0 ≤ total links weights i
   so_far_le = totals_le s.streams (λ j. get_or weights j 0) (λ j. get_or totals j 0)
-      (total links weights)
+      _
       (λ i h. omega (
         arith,
         s.sums i h,
-        sum_below-le (sent_on links waits totals i) (λ j. upstream links j i (get_or totals j 0)) (length links) (λ j l.
-            part_le (leads_to links j i) (has_sent waits j) (get_or totals j 0)),
+        sum_below-le _ (λ j. upstream links j i (get_or totals j 0)) (length links) (λ j l.
+            part_le _ (has_sent waits j) (get_or totals j 0)),
       ))
       (λ i h. omega (arith, (totals_are weights s.streams).each i h))
 
@@ -349,7 +347,7 @@ module _ {links weights waits totals : List ℕ} (s : IsSending links weights wa
         s.counts node inside node_open,
         waiting-open links waits node j f,
         cond-true {A = ℕ} _ 1 0 on,
-        term-le-sum_below (waiting links waits node) (length links) j h,
+        term-le-sum_below (waiting links waits node) _ j h,
       ))
     ]
 
@@ -365,7 +363,7 @@ module _ {links weights waits totals : List ℕ} (s : IsSending links weights wa
       s.counts i h (next_open i h on),
       waiting-open links waits i node node_open,
       cond-true {A = ℕ} _ 1 0 on,
-      term-le-sum_below (waiting links waits i) (length links) node inside,
+      term-le-sum_below (waiting links waits i) _ node inside,
     )
 
     next_few : (i : ℕ) → i < length links → leads_to links node i ≡ true →
@@ -374,7 +372,7 @@ module _ {links weights waits totals : List ℕ} (s : IsSending links weights wa
       arith,
       s.counts i h (next_open i h on),
       sum_below-few (waiting links waits i) (length links) (λ j l.
-          bit_le (leads_to links j i && not (has_sent waits j))),
+          bit_le _),
     )
 
     module _ {new_waits new_totals : List ℕ}
@@ -387,21 +385,21 @@ module _ {links weights waits totals : List ℕ} (s : IsSending links weights wa
         | inl on ↦ open_from_count new_waits j
             (omega (arith, m.fewer j ne, next_few j h on, s.few)) ∙ sym (next_open j h on)
         | inr off ↦ (let same : get_or new_waits j 0 ≡ get_or waits j 0 = omega
-            (arith, m.fewer j ne, cond-false {A = ℕ} _ 1 0 off) in ap (λ n. eqb n sent_entry) same)
+            (arith, m.fewer j ne, cond-false {A = ℕ} _ 1 0 off) in cc)
       ]
 
       apart : (i : ℕ) → has_sent new_waits i ≡ false → i ≢ node
-      apart i f e = false≢true (sym f ∙ ap (has_sent new_waits) e ∙ sent_now)
+      apart i f e = false≢true (cc sent_now)
 
       new_counts : (i : ℕ) → i < length links → has_sent new_waits i ≡ false →
           get_or new_waits i 0 ≡ sum_below (waiting links new_waits i) (length links)
       new_counts i h f = omega (
         arith,
         m.fewer i (apart i f),
-        s.counts i h (sym (other_sent i h (apart i f)) ∙ f),
+        s.counts i h (cc (other_sent i h (apart i f))),
         sum_below-except (waiting links new_waits i) (waiting links waits i)
             (length links) node inside (λ j l ne.
-            ap (λ b. cond {A = ℕ} (leads_to links j i && not b) 1 0) (other_sent j l ne)),
+            cc (other_sent j l ne)),
         waiting-open links waits i node node_open,
         waiting-sent links new_waits i node sent_now,
       )
@@ -429,8 +427,8 @@ module _ {links weights waits totals : List ℕ} (s : IsSending links weights wa
         arith,
         m.more i,
         s.sums i h,
-        sum_below-except (sent_on links new_waits new_totals i)
-            (sent_on links waits totals i) (length links) node inside (same_sent i),
+        sum_below-except _
+            _ _ node inside (same_sent i),
         sent_on-open links waits totals i node node_open,
         sent_on-all links new_waits new_totals i node sent_now,
         ap (λ n. upstream links node i n)
@@ -440,10 +438,10 @@ module _ {links weights waits totals : List ℕ} (s : IsSending links weights wa
       new_closed : (i j : ℕ) → i < length links → j < length links → leads_to links j i ≡ true →
           has_sent new_waits i ≡ true → has_sent new_waits j ≡ true
       new_closed i j h l on t = elim (cases_eq j node) [
-        | inl k ↦ ap (has_sent new_waits) k ∙ sent_now
+        | inl k ↦ cc sent_now
         | inr k ↦ other_sent j l k ∙ elim (cases_eq i node) [
-          | inl b ↦ donors_sent j l (sym (ap (leads_to links j) b) ∙ on)
-          | inr b ↦ s.closed i j h l on (sym (other_sent i h b) ∙ t)
+          | inl b ↦ donors_sent j l (cc)
+          | inr b ↦ s.closed i j h l on (cc (other_sent i h b))
         ]
       ]
 
@@ -453,8 +451,8 @@ module _ {links weights waits totals : List ℕ} (s : IsSending links weights wa
         streams = s.streams;
         few = s.few;
         fits = s.fits;
-        waits_size = m.waits_size ∙ s.waits_size;
-        totals_size = m.totals_size ∙ s.totals_size;
+        waits_size = cc;
+        totals_size = cc;
         counts = new_counts;
         sums = new_sums;
         closed = new_closed;
@@ -463,8 +461,8 @@ module _ {links weights waits totals : List ℕ} (s : IsSending links weights wa
       falls : unsent new_waits (length links) < unsent waits (length links)
       falls = omega (
         arith,
-        sum_below-except (unsent_one new_waits) (unsent_one waits) (length links) node inside
-            (λ j l ne. ap (λ b. cond {A = ℕ} b 0 1) (other_sent j l ne)),
+        sum_below-except (unsent_one new_waits) (unsent_one waits) _ node inside
+            (λ j l ne. cc (other_sent j l ne)),
         cond-false {A = ℕ} _ 0 1 node_open,
         cond-true {A = ℕ} _ 0 1 sent_now,
       )
@@ -493,7 +491,7 @@ module _ {links weights waits totals : List ℕ} (s : IsSending links weights wa
 
     pub step_waits : 1 ≤ get_or waits next 0
     step_waits = next_waits s node inside ready next next_inside
-        (leads_from links node (sym is) (λ e. on (sym e)))
+        (leads_from links node (sym is) (λ e. on (cc)))
 
     fewer : (i : ℕ) → i ≢ node → get_or (next_waits_list waits node next) i 0
         + upstream links node i 1 ≡ get_or waits i 0
@@ -513,7 +511,7 @@ module _ {links weights waits totals : List ℕ} (s : IsSending links weights wa
       | inr other ↦ omega (
         arith,
         get_or-set_other (set waits node sent_entry) next i
-            (get_or (set waits node sent_entry) next 0 - 1) 0 (λ e. other (sym e)),
+            (get_or (set waits node sent_entry) next 0 - 1) 0 (λ e. other (cc)),
         others i ne,
         ap (λ b. cond {A = ℕ} b 1 0) (leads_test links node i is on),
         cond-false {A = ℕ} _ 1 0 (ne_eqb next i other),
@@ -524,15 +522,16 @@ module _ {links weights waits totals : List ℕ} (s : IsSending links weights wa
         (next_totals_list totals node next) node
     moves = record {
       waits_size = length-set (set waits node sent_entry) next
-          (get_or (set waits node sent_entry) next 0 - 1) ∙ length-set waits node sent_entry;
-      totals_size = length-set totals next (get_or totals next 0 + get_or totals node 0);
+          _ ∙ length-set waits node sent_entry;
+      totals_size = length-set totals next _;
       sent = get_or-set_other (set waits node sent_entry) next node
-          (get_or (set waits node sent_entry) next 0 - 1) 0 (λ e. on (sym e)) ∙ sent;
+          _ 0 (λ e. on (cc)) ∙ sent;
       fewer = fewer;
-      more = λ i. added_at totals next (get_or totals node 0) i
-          (omega (arith, s.totals_size, next_inside))
-          ∙ ap (λ b. get_or totals i 0 + cond b (get_or totals node 0) 0)
-          (sym (leads_test links node i is on));
+      more = λ i. cc (
+        added_at totals next (get_or totals node 0) i
+            (omega (arith, s.totals_size, next_inside)),
+        leads_test links node i is on,
+      );
     }
 
     pub step_sending : IsSending links weights (next_waits_list waits node next)
@@ -555,10 +554,13 @@ module _ {links weights waits totals : List ℕ} (s : IsSending links weights wa
     pub step_early : (from : ℕ) → ((i : ℕ) → i < from → i ≢ node → get_or waits i 0 ≢ 0) →
         (i : ℕ) → i < from → i ≢ next → get_or (next_waits_list waits node next) i 0 ≢ 0
     step_early from early i h ne = elim (cases_eq i node) [
-      | inl e ↦ (λ z. omega
-          (arith, z, ap (λ n. get_or (next_waits_list waits node next) n 0) e, moves.sent))
-      | inr other ↦ (λ z. early i h other (sym (get_or-set_other (set waits node sent_entry)
-          next i _ 0 ne ∙ others i other) ∙ z))
+      | inl e ↦ λ z. omega
+          (arith, z, ap (λ n. get_or (next_waits_list waits node next) n 0) e, moves.sent)
+      | inr other ↦ λ z. early i h other (cc (
+        get_or-set_other (set waits node sent_entry)
+            next i _ 0 ne,
+        others i other,
+      ))
     ]
 
   module _ (end : next ≡ node) where
@@ -581,6 +583,6 @@ module _ {links weights waits totals : List ℕ} (s : IsSending links weights wa
     pub end_early : (from : ℕ) → ((i : ℕ) → i < from → i ≢ node → get_or waits i 0 ≢ 0) →
         (i : ℕ) → i < from → get_or (set waits node sent_entry) i 0 ≢ 0
     end_early from early i h = elim (cases_eq i node) [
-      | inl e ↦ (λ z. omega (arith, z, ap (λ n. get_or (set waits node sent_entry) n 0) e, sent))
-      | inr other ↦ (λ z. early i h other (sym (others i other) ∙ z))
+      | inl e ↦ λ z. omega (arith, z, ap (λ n. get_or (set waits node sent_entry) n 0) e, sent)
+      | inr other ↦ λ z. early i h other (cc (others i other))
     ]

@@ -59,14 +59,14 @@ module _ {d : Directed} (e : IsEnding d) {t : Cutting} {tile : ℕ} {b : Bounds}
     term_off : (j : ℕ) → j < length links → ((a : ℕ) → follow d q (suc a) ≡ place_in b i →
         follow d q a ≢ place_in b i → T (suc a) → follow d q a ≡ place_in b j → ⊥) → term j ≡ 0
     term_off j l none = elim (cases_Bool (leads_to links j i)) [
-      | inr n ↦ cond-false {A = ℕ} _ _ 0 n
-      | inl y ↦ cond-true {A = ℕ} _ _ 0 y
+      | inr n ↦ cond-false _ _ 0 n
+      | inl y ↦ cond-true _ _ 0 y
           ∙ counted_off d q (false_from_ne_true _ (λ r.
-          (let m = from (place_in b j) r in
+          (let m = from _ r in
           let x = leads_place j i l y in
-          let goes : follow d q (suc m.0) ≡ place_in b i = ap (next d) m.1 ∙ x.0 in
-          none m.0 goes (λ z. x.1 (sym m.1 ∙ z))
-          (more m.0 m.2
+          let goes = ap (next d) m.1 ∙ x.0 in
+          none _ goes (λ z. x.1 (sym m.1 ∙ z))
+          (more _ m.2
           (rw m.1 (in_place s j l)) (rw goes (in_place s i h))) m.1)))
     ]
 
@@ -171,7 +171,7 @@ module _ {d : Directed} (e : IsEnding d) {t : Cutting} {tile : ℕ} {b : Bounds}
       (d.rows * d.cols)) i
   tallied R over i h each none = omega (
     arith,
-    counts_upstream d links i (λ j. R (place_in b j)) (λ q. own (place_in b i) q + over (place_in b i) q) each
+    counts_upstream d links i (λ j. R _) (λ q. own _ q + over _ q) each
         (λ q n. omega (arith, counted_none d q (is_place (place_in b i) q) n, none q n)),
     sum_below-add (λ c. own (place_in b i) (cell d c)) (λ c. over (place_in b i) (cell d c)) (d.rows * d.cols),
     own_sum,
@@ -180,22 +180,18 @@ module _ {d : Directed} (e : IsEnding d) {t : Cutting} {tile : ℕ} {b : Bounds}
       own_sum : sum_below (λ c. own (place_in b i) (cell d c)) (d.rows * d.cols) ≡ weight_in d b i
       own_sum =
           let inside : IsInBounds (grid_of d) (place_in b i) =
-          (let x = in_place s i h in (
-            omega arith,
-            omega (arith, x, s.inside.rows_inside, s.rows),
-            omega arith,
-            omega (arith, x, s.inside.cols_inside, s.cols),
-          )) in
-          one_term (λ c. own (place_in b i) (cell d c))
-          (d.rows * d.cols) (index_in (grid_of d) (place_in b i))
-          (index_in_below (grid_of d) (place_in b i) inside)
-          (λ j l ne. counted_off d (cell d j) (false_from_ne_true _ (λ y.
-          ne (sym (index_in-place_in (grid_of d) j) ∙ ap
-          (index_in (grid_of d)) (sym (place_is (place_in b i) (cell d j) y))))))
-          ∙ ap (own (place_in b i))
-          (place_in-index_in (grid_of d) (place_in b i) inside)
-          ∙ ap (λ x. cond {A = ℕ} x 1 0) (and_on (is_some (code_at d (place_in b i)))
-          (is_place_from (place_in b i) (place_in b i) refl))
+          (let x = in_place s i h in omega (arith, x, s.inside.rows_inside, s.rows, s.inside.cols_inside, s.cols)) in
+          cc (
+            one_term (λ c. own (place_in b i) (cell d c))
+                (d.rows * d.cols) (index_in (grid_of d) (place_in b i))
+                (index_in_below (grid_of d) (place_in b i) inside)
+                (λ j l ne. counted_off d (cell d j) (false_from_ne_true _ (λ y.
+                ne (sym (index_in-place_in (grid_of d) j) ∙ ap
+                (index_in (grid_of d)) (sym (place_is (place_in b i) (cell d j) y)))))),
+            place_in-index_in (grid_of d) (place_in b i) inside,
+            and_on (is_some (code_at d (place_in b i)))
+                (is_place_from (place_in b i) (place_in b i) refl),
+          )
 
   -- The weights of a tile's cells: 1 for each data cell, plus the inflow.
   abbrev pub AreWeights : List ℕ → Type 0
@@ -211,16 +207,16 @@ module _ {d : Directed} (e : IsEnding d) {t : Cutting} {tile : ℕ} {b : Bounds}
       weighed i h,
       inflow_sum d t (place_in b i),
       tallied (drains_through d) (entered d t) i h (λ q is.
-          parts is i h (λ p. drains_through d p q) (λ k. Unit {0}) tt
-          (λ p y. (let m = drains_from e q p y in (m.0, m.1, tt))) (λ p k way _.
+          parts is i h (λ p. drains_through d p q) (λ k. Unit) tt
+          (λ p y. let m = drains_from e q p y in (m.0, m.1, tt)) (λ p k way _.
           drains_at e is k way) (λ k m le _. tt) (λ k _ x y. tt)
-          (entered d t (place_in b i) q)
+          _
           (λ none. counted_off d q (false_from_ne_true _ (λ y.
-          (let x = enters_from e t (place_in b i) q y in
-          none x.0 x.1 tt (λ z. x.2 (tile_is s _ z
-          ∙ sym (tile_is s _ (in_place s i h))))))))
-          (λ a goes _ out. counted_on is (enters_at e t (place_in b i) q is a goes
-          (λ same. out ((s.places (follow d q a)).0 (
+          let x = enters_from e t _ q y in
+          none _ x.1 tt (λ z. x.2 (tile_is s _ z
+          ∙ sym (tile_is s _ (in_place s i h)))))))
+          (λ a goes _ out. counted_on is (enters_at e t _ q is a goes
+          (λ same. out ((s.places _).0 (
             coded_within s (coded_along s.ends is a),
             same ∙ tile_is s _ (in_place s i h),
           ))))))
@@ -240,17 +236,15 @@ module _ {d : Directed} (e : IsEnding d) {t : Cutting} {tile : ℕ} {b : Bounds}
       tallied (reaches_inside d t) (λ p q. 0) i h (λ q is.
           parts is i h (λ p. reaches_inside d t p q) (λ k. stays d t q k ≡ true) (begins q)
           (λ p y.
-          (let r = some_in_range (λ k. is_place p (follow d q k) && stays d t q k) (moves d) y in
-          let w = and_parts _ _ r.2 in (r.0, sym (place_is p (follow d q r.0) w.0), w.1)))
-          (λ p k way still. (let m = reached_early e is k way in
-          any_in_range (λ k. is_place p (follow d q k) && stays d t q k) (moves d) m.0 m.1
-          (and_from _ _ (is_place_from p (follow d q m.0) (sym m.3)) (sooner q k m.0 m.2 still))))
+          let r = some_in_range (λ k. is_place p (follow d q k) && stays d t q k) _ y in
+          let w = and_parts _ _ r.2 in (r.0, sym (place_is p _ w.0), w.1))
+          (λ p k way still. let m = reached_early e is k way in
+          any_in_range (λ k. is_place p (follow d q k) && stays d t q k) _ _ m.1
+          (and_from _ _ (is_place_from p _ (cc)) (sooner q k _ m.2 still)))
           (sooner q) (later q) 0 (λ _. refl)
-          (λ a goes still out. absurd (out ((s.places (follow d q a)).0 (
+          (λ a goes still out. absurd (out ((s.places _).0 (
             coded_within s (coded_along s.ends is a),
-            still_at d t q (suc a) still a (omega arith) ∙ sym
-                (still_at d t q (suc a) still (suc a) (omega arith)) ∙ ap (tile_of_place t) goes
-                ∙ tile_is s _ (in_place s i h),
+            cc (still_at d t q (suc a) still a (omega arith), still_at d t q (suc a) still (suc a) (omega arith), tile_is s _ (in_place s i h)),
           )))))
           (λ q n. refl),
     );
@@ -258,16 +252,14 @@ module _ {d : Directed} (e : IsEnding d) {t : Cutting} {tile : ℕ} {b : Bounds}
     where
       begins : (q : Place) → stays d t q 0 ≡ true
       begins q = still_from d t q 0 (λ l le.
-          (let z : l ≡ 0 = omega arith in ap (λ n. tile_of_place t (follow d q n)) z))
+          (let z : l ≡ 0 = omega arith in cc))
 
       sooner : (q : Place) (k m : ℕ) → m ≤ k → stays d t q k ≡ true → stays d t q m ≡ true
       sooner q k m le still = still_from d t q m (λ l less. still_at d t q k still l (omega arith))
 
       later : (q : Place) (k : ℕ) → stays d t q k ≡ true → IsInBounds b (follow d q k) →
           IsInBounds b (follow d q (suc k)) → stays d t q (suc k) ≡ true
-      later q k still here next_here = still_from d t q (suc k) (λ l le. elim (cases_eq l (suc k)) [
-        | inl z ↦ ap (λ n. tile_of_place t (follow d q n)) z
-            ∙ tile_is s _ next_here ∙ sym (tile_is s _ here)
-            ∙ still_at d t q k still k (omega arith)
+      later q k still here next_here = still_from d t q _ (λ l le. elim (cases_eq l (suc k)) [
+        | inl z ↦ cc (tile_is s _ next_here, tile_is s _ here, still_at d t q k still k (omega arith))
         | inr ne ↦ still_at d t q k still l (omega arith)
       ])

@@ -20,14 +20,12 @@ use Rattle.flow.proofs.Reaching.{IsEnding}
 pub directed_same : (d : Drained) (t : Cutting) {codes : List (Option ℕ)} → Cuts t d.terrain →
     codes ≡ d.codes → directed_on t codes ≡ directed_of d
 directed_same d t {codes} cuts e =
-    ap (λ n. make_directed n t.rows codes) cuts.0 ∙ ap (λ n. make_directed d.terrain.cols n codes)
-    cuts.1 ∙ ap (make_directed d.terrain.cols d.terrain.rows) e
+    cc
 
 pub grid_flow : {d : Drained} (t : Cutting) {codes : List (Option ℕ)} → IsDraining d →
     Cuts t d.terrain → codes ≡ d.codes → IsGridFlow t.cols t.rows codes
 grid_flow {d} t {codes} draining cuts e = record {
-  size = ap length e ∙ draining.codes_size
-      ∙ sym (ap (λ n. n * t.rows) cuts.0 ∙ ap (λ n. d.terrain.cols * n) cuts.1);
+  size = cc;
   ends = subst (λ x. AllFlowEnds x) (sym (directed_same d t cuts e))
       (falling_ends d draining);
 }
@@ -43,7 +41,7 @@ drained_ending d terrain draining = record {
 
 pub drained_coded : (d : Drained) → IsDraining d → (p : Place) → IsDataCell d.terrain p →
     IsCoded (directed_of d) p
-drained_coded d draining p is = coded_from_some (directed_of d) p (draining.same_data p ∙ is)
+drained_coded d draining p is = coded_from_some _ p (draining.same_data p ∙ is)
 
 -- Let P k hold of the result of each job k, of n jobs. If Q holds of every list of n entries where
 -- P k holds of entry k, Q holds of the list that the jobs return.
@@ -52,9 +50,9 @@ pub jobs_gave : {X E : Type 0} (P : ℕ → X → Type 0) (r : Result (Vec X Glo
     ((outs : List X) → length outs ≡ m → ((k : ℕ) (x : X) → slice_get outs k ≡ Some x → P k x) →
     Q outs) →
     IfOk r (λ v. vec_len v ≡ n) → IfOk r (λ v. AreResults P n v.items) → IfOk r (λ v. Q v.items)
-jobs_gave P (Ok v) Q same made len given = made v.items (omega (arith, v.ok.0, len, same))
-    (λ k x there. rw (get_or_from_slice_get v.items k x x there) at (given k x
-    (omega (arith, v.ok.0, len, slice_get_within v.items k x there))))
+jobs_gave P (Ok v) Q same made len given = made _ (omega (arith, v.ok.0, len, same))
+    (λ k x there. rw (get_or_from_slice_get _ k x x there) at (given k x
+    (omega (arith, v.ok.0, len, slice_get_within _ k x there))))
 jobs_gave P (Err e) Q same made len given = len
 
 -- A list with each data cell's value at its place, and `None` at NODATA, is the map of these values
@@ -65,5 +63,4 @@ pub whole_map : (d : Drained) (t : Cutting) {codes : List (Option ℕ)} →
     ((p : Place) → IsWithin t p → IsValueAt (directed_on t codes)
     (value (directed_on t codes)) p (entry_at t.cols t.rows whole p)) →
     IsMapOf (directed_of d) (value (directed_of d)) whole
-whole_map d t cuts same value whole size each = subst (λ x. IsMapOf x
-    (value x) whole) (directed_same d t cuts same) (record { size = size; each = each })
+whole_map d t cuts same value whole size each = rw (← directed_same d t cuts same) (record { size = size; each = each })

@@ -22,10 +22,10 @@ leads_from links j e ne = and_from _ _ (eq-eqb _ _ e) (not_from_false _ (ne_eqb 
 pub leads_end : (links : List ℕ) {node : ℕ} (i : ℕ) → next_node links node ≡ node →
     leads_to links node i ≡ false
 leads_end links {node} i e =
-    false_from_ne_true _ (λ y. (let w = leads_parts links node i y in w.1 (sym e ∙ w.0)))
+    false_from_ne_true _ (λ y. let w = leads_parts links node i y in w.1 (cc))
 
 pub leads_self : (links : List ℕ) (i : ℕ) → leads_to links i i ≡ false
-leads_self links i = and_right _ (not (eqb i i)) (not_from_true _ (eq-eqb i i refl))
+leads_self links i = and_right _ _ (not_from_true _ (eq-eqb i i refl))
 
 module _ {links : List ℕ}
     (streams : AreStreams links) (P : ℕ → ℕ → Type 0) (step : (k i : ℕ) → i < length links →
@@ -40,7 +40,7 @@ module _ {links : List ℕ}
   chain_on : (k j i : ℕ) → leads_to links j i ≡ true → Chain k j → Chain (suc k) i
   chain_on k j i on c =
       let l = leads_parts links j i on in
-      let there : next_node links (node_after links c.from k) ≡ i = ap (next_node links) c.leads
+      let there = ap (next_node links) c.leads
       ∙ l.0 in
       record {
         from = c.from;
@@ -61,8 +61,8 @@ module _ {links : List ℕ}
 
   -- If P (k + 1) of a node follows from P k of its donors, P (length links) holds of every node.
   pub each_downstream : (i : ℕ) → i < length links → P (length links) i
-  each_downstream i h = by_chains (length links) i h (λ c. (let r = early_end links streams.inside
-      c.from c.inside (length links) (streams.ends c.from c.inside) in c.goes r.0 r.1 r.2))
+  each_downstream i h = by_chains _ i h (λ c. let r = early_end links streams.inside
+      _ c.inside _ (streams.ends _ c.inside) in c.goes _ r.1 r.2)
 
 pub sums_le : (links : List ℕ) (i : ℕ) (f g : ℕ → ℕ) → ((j : ℕ) → j < length links →
     leads_to links j i ≡ true → f j ≤ g j) → upstream_sum links f i ≤ upstream_sum links g i
@@ -103,8 +103,8 @@ totals_are {links} weights streams = record {
       ≡ total_within links weights (suc k) i)
       (λ k i h before. omega (
         arith,
-        sums_same links i (total_within links weights k)
-            (total_within links weights (suc k)) before,
+        sums_same links i _
+            _ before,
       ));
 }
 
@@ -138,7 +138,7 @@ totals_add links v w both streams sum =
         sum_below-same (λ j. upstream links j i (total links v j + total links w j))
             (λ j. upstream links j i (total links v j)
             + upstream links j i (total links w j)) (length links)
-            (λ j l. cond_add (leads_to links j i) (total links v j) (total links w j)),
+            (λ j l. cond_add _ _ _),
         sum_below-add (λ j. upstream links j i (total links v j))
             (λ j. upstream links j i (total links w j)) (length links),
       );
