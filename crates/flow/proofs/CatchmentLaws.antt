@@ -61,7 +61,6 @@ same_gauge gauges p q a b same =
     let v = position_of (is_place q) 1 gauges b in
     let at : u.at ≡ v.at = omega (
       arith,
-      same,
       ap or_zero u.found,
       ap or_zero v.found,
     ) in
@@ -95,7 +94,7 @@ module _ {d : Directed} (s : IsEnding d) (gauges : List Place) {g : Place} (is :
           | inr apart ↦ elim (cases_lt m.0 w.at) [
             | inl early ↦ absurd (false≢true (sym (w.before m.0 early) ∙ there))
             | inr late ↦
-                let on : w.at + (m.0 - w.at) ≡ m.0 = omega (arith, late) in
+                let on : w.at + (m.0 - w.at) ≡ m.0 = omega arith in
                 let reaches = follow_more d q _ _ ∙ ap (follow d q) on ∙ m.3 in
                 absurd (false≢true (sym (alone _ w.passes apart)
                 ∙ drains_at s (coded_along s.ends coded _)
@@ -109,8 +108,7 @@ module _ {d : Directed} (s : IsEnding d) (gauges : List Place) {g : Place} (is :
   drains_if q coded same = elim (cases_first is_gauge (follow d q) (moves d)) [
     | inr w ↦ absurd (omega (
       arith,
-      same,
-      some_number gauges g named,
+      some_number,
       ap (λ (o : Option Place). option_map_or (gauge_number gauges) o 0) w.found,
     ))
     | inl w ↦ drains_at s coded _

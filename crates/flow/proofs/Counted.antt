@@ -56,7 +56,7 @@ module _ {t : Cutting} {codes : List (Option ℕ)} {flows : List Flow} {inflows 
     right = s.are_flows.of_tiles.each tile f there
 
     below : tile < tile_count t
-    below = omega (arith, slice_get_within flows tile f there, s.are_flows.of_tiles.count)
+    below = omega (arith, slice_get_within)
 
     around : AreBounds t (bounds_of t tile)
     around = bounds_inside t tile s.are_flows.cutting below
@@ -67,14 +67,14 @@ module _ {t : Cutting} {codes : List (Option ℕ)} {flows : List Flow} {inflows 
 
     within_tile : (p : Place) → IsInBounds (bounds_of t tile) p → (p.row < t.rows)
         × (p.col < t.cols)
-    within_tile p h = (omega (arith, h, around.rows_inside, around.cols_inside))
+    within_tile p h = (omega arith)
 
     pub inflow_few : (p : Place) → IsInBounds (bounds_of t tile) p →
         listed_inflow inflows p ≤ 16777216
     inflow_few p h = omega (
       arith,
       s.are_inflows.each p (within_tile p h),
-      inflow_sum (directed_on t codes) t p,
+      inflow_sum,
       entered_few ending t p,
     )
 
@@ -117,13 +117,11 @@ module _ {t : Cutting} {codes : List (Option ℕ)} {flows : List Flow} {inflows 
             let inside = in_place piece_of j h in
             let index = index_in-place_in (bounds_of t tile) j in
             let own =
-            (weights_from of_cells).each j (omega (arith, h, piece_of.made.size)) in
+            (weights_from of_cells).each j (omega (arith, piece_of.made.size)) in
             omega (
               arith,
-              both_at j h,
-              weighed.each _ inside,
+              both_at,
               ap (λ n. get_or weights n 0) index,
-              own,
               s.are_inflows.each _
                   (within_tile _ inside),
             )
@@ -149,9 +147,7 @@ module _ {t : Cutting} {codes : List (Option ℕ)} {flows : List Flow} {inflows 
             omega (arith, index_in_below _ p h, of_cells.size, same_sizes) in
             omega (
               arith,
-              counted.each _ there,
-              summed.each _ there,
-              total_drained _ there,
+              total_drained,
               ap (all_drained (directed_on t codes)) at,
               accumulation_is ending p is,
             )
@@ -182,7 +178,7 @@ module _ {t : Cutting} {codes : List (Option ℕ)} {flows : List Flow} {inflows 
             total_drained made
                 (subst (λ x. AreInflowWeights inflows (bounds_of x tile) weights)
                 s.are_inflows.cutting weighed) i
-                (omega (arith, h, same_sizes made)),
+                (omega (arith, same_sizes made)),
             drained_few ending (place_in (bounds_of t tile) i),
           );
         }

@@ -51,7 +51,7 @@ cut_next {cols = cols} {rows = rows} gauges k {cut = cut} d size below inside ma
             ∙ ap (entry_at cols rows (set cut (index_of cols g) (Some 0))) same
             ∙ entry-inside cols rows (set cut (index_of cols g) (Some 0)) g inside.0 inside.1
             ∙ get_or-set_at cut (index_of cols g) (index_of cols g) (Some 0) None refl
-            (omega (arith, index_below cols rows g inside.0 inside.1, size, was.size))
+            (omega (arith, index_below cols rows g inside.0 inside.1))
         | inr apart ↦
             ap (λ l. entry_at cols rows l p) made
             ∙ entry_set_other cols rows cut (Some 0) p g inside.1 apart
@@ -94,5 +94,5 @@ pub number_next : (cols : ℕ) (gauges : List Place) (k i : ℕ) (d : Place) →
     number_of_index cols (take (k + 1) gauges) i ≡ option_or (number_of_index cols
     (take k gauges) i) (cond (index_of cols (get_or gauges k d) == i) (Some (k + 1)) None)
 number_next cols gauges k i d below =
-    let size : 1 + length (take k gauges) ≡ k + 1 = omega (arith, length-take k gauges, below) in
+    let size : 1 + length (take k gauges) ≡ k + 1 = omega (arith, length-take k gauges) in
     cc (take_more gauges k d below, position_push (λ (g : Place). index_of cols g == i) 1 (take k gauges) (get_or gauges k d))

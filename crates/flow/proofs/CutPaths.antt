@@ -45,11 +45,11 @@ module _ {X : Type 0} (test : X → Bool) (f : ℕ → X) where
       cc (add-one n, mapped_next f n, find-append test (map f (range_with_len 0 n)) (f n ∷ []))
 
   pub cases_first : (n : ℕ) → IsFirst test f n ⊎ IsAbsent test f n
-  cases_first zero = inr (record { fails = λ j below. absurd (omega (arith, below)); found = refl })
+  cases_first zero = inr (record { fails = λ j below. absurd (omega arith); found = refl })
   cases_first (suc n) = elim (cases_first n) [
     | inl first ↦ inl (record {
       at = first.at;
-      below = omega (arith, first.below);
+      below = omega arith;
       passes = first.passes;
       before = first.before;
       found = cc (found_next n);
@@ -65,7 +65,7 @@ module _ {X : Type 0} (test : X → Bool) (f : ℕ → X) where
       | inr not_here ↦ inr (record {
         fails = λ j below. elim (cases_lt j n) [
           | inl early ↦ absent.fails j early
-          | inr late ↦ (let same : n ≡ j = omega (arith, late, below) in
+          | inr late ↦ (let same : n ≡ j = omega arith in
               rw same at not_here)
         ];
         found = cc (found_next n, cond-false (test (f n)) (Some (f n)) None not_here);
@@ -104,7 +104,7 @@ pub position_same : {X : Type 0} (p q : X → Bool) (i : ℕ) (xs : List X) → 
     position_from p i xs ≡ position_from q i xs
 position_same p q i [] same = refl
 position_same p q i (x ∷ xs) same =
-    cc (same 0 x (omega arith), position_same p q (i + 1) xs (λ k d below. same (suc k) d (omega (arith, below))))
+    cc (same 0 x (omega arith), position_same p q (i + 1) xs (λ k d below. same (suc k) d (omega arith)))
 
 pub position_below : {X : Type 0} (p : X → Bool) (i : ℕ) (xs : List X) →
     unwrap_or (position_from p (suc i) xs) 0 ≤ i + length xs
@@ -140,14 +140,14 @@ module _ {d : Directed} (s : IsEnding d)
       follow cut_d p k ≡ follow d p k
   follows p zero clear = refl
   follows p (suc k) clear = ap (next cut_d) (follows p k
-      (λ j below. clear j (omega (arith, below)))) ∙ goes_on _ (clear k (omega arith))
+      (λ j below. clear j (omega arith))) ∙ goes_on _ (clear k (omega arith))
 
   -- If the path of p meets a gauge, p's path in the cut map ends at the first gauge on the path.
   last_first : (p : Place) → (w : IsFirst is_gauge (follow d p) (moves d)) →
       last_of cut_d p ≡ follow d p w.at
   last_first p w =
       let here = follows p _ w.before in
-      follow_stays cut_d p _ _ (omega (arith, w.below)) (ap (next cut_d) here
+      follow_stays cut_d p _ _ (omega arith) (ap (next cut_d) here
       ∙ stays _ w.passes ∙ sym here) ∙ here
 
   last_absent : (p : Place) → IsAbsent is_gauge (follow d p) (moves d) →

@@ -95,8 +95,7 @@ counts_upstream d links i test own each none = omega (
       | inl y ↦ each q (coded_from_some d q y)
       | inr n ↦ omega (
         arith,
-        counted_none d q (test i q) n,
-        none q n,
+        counted_none,
         sum_below-none (λ j. upstream links j i (counted d _ q)) (length links)
             (λ j _. ap (upstream links j i) (counted_none d q (test j q) n) ∙ cond_same (leads_to links j i)),
       )
@@ -122,7 +121,7 @@ module _ {d : Directed} (s : IsEnding d) where
       ap f (cell_back s is) ∙ one in
       let there =
       ap g (cell_back s is) ∙ none in
-      omega (arith, change, here, there, sum_of_cells g d.cols d.rows)
+      omega (arith, sum_of_cells)
 
   pub other_test : (p q : Place) → q ≢ p → is_place p q ≡ false
   other_test p q ne = false_from_ne_true _ (λ y. ne (sym (place_is p q y)))

@@ -44,7 +44,7 @@ module _ (x : ℕ → ℕ) (step : (a b : ℕ) → x a ≡ x b → x (suc a) ≡
       ⊎ ((k : ℕ) → k < n → x (suc k) ≡ x k → ⊥)
   cases_stop zero = inr (λ k h _. omega arith)
   cases_stop (suc n) = elim (cases_stop n) [
-    | inl r ↦ inl (r.0, omega (arith, r.1), r.2)
+    | inl r ↦ inl (r.0, omega arith, r.2)
     | inr none ↦ elim (cases_eq (x (suc n)) (x n)) [
       | inl e ↦ inl (n, omega arith, e)
       | inr ne ↦ inr (λ k h. elim (cases_eq k n) [
@@ -91,7 +91,7 @@ streams_from links inside stops = record {
   inside = inside;
   ends = λ i h. let s = stops i h in
       let r = early_end links inside i h s.0 s.1 in
-      let last = node_stays links i r.0 (length links) (omega (arith, r.1)) r.2 in
+      let last = node_stays links i r.0 (length links) (omega arith) r.2 in
       cc;
 }
 
@@ -120,7 +120,7 @@ SharesEnd links from node = (node < length links) × (end_of links node ≡ end_
 pub next_on_path : {links : List ℕ} → AreStreams links → (from node : ℕ) {next : ℕ} →
     next ≡ next_node links node → SharesEnd links from node → SharesEnd links from next
 next_on_path {links} s from node is on = (
-  omega (arith, is, s.inside node on.0),
+  omega arith,
   cc (end-onward s node on.0),
 )
 
@@ -149,7 +149,7 @@ moves_fall {links} s i h on =
     ap (λ a. cond {A = ℕ} (eqb a (end_of links (next_node links i))) 0 1)
     (node_after-first links i k)
     ∙ ap (λ b. cond {A = ℕ} (eqb (node_after links i (suc k)) b) 0 1) (end-onward s i h)) in
-    omega (arith, next, sum_of_next left (length links), here, last)
+    omega (arith, sum_of_next)
 
 -- one move on a path leaves fewer moves, unless it stays
 pub moves_less : {links : List ℕ} → AreStreams links → (node : ℕ) {next : ℕ} → next ≡ next_node links node →
@@ -179,13 +179,12 @@ writes_fall {links} {ends} i last s f h unknown known =
           cond {A = ℕ} (eqb (get_or (set ends i last) (next_node links i) 0) uncounted) 1 0
           ≡ 0 =
           cond-false {A = ℕ} _ 1 0 (ne_eqb _ _ (λ u. known (sym (ap (λ n. get_or (set ends i last)
-          n 0) e ∙ get_or-set_same ends i last 0 (omega (arith, f.size, h))) ∙ u))) in
-          omega (arith, was, now, ap (moves_left links) e))
+          n 0) e ∙ get_or-set_same ends i last 0 (omega arith)) ∙ u))) in
+          omega (arith, ap (moves_left links) e))
       | inr on ↦ omega (
         arith,
-        was,
         moves_fall s i h on,
-        bit_le (eqb (get_or (set ends i last) (next_node links i) 0) uncounted),
+        bit_le,
       )
     ]
 
@@ -194,7 +193,7 @@ pub known_more : {links ends : List ℕ} {number : ℕ → ℕ} (node end : ℕ)
 known_more {links} {ends} {number} node end f h e = record {
   size = cc (length-set ends node end);
   right = λ i l known. elim (cases_eq i node) [
-    | inl s ↦ cc (get_or-set_same ends node end 0 (omega (arith, f.size)))
+    | inl s ↦ cc (get_or-set_same ends node end 0 (omega arith))
     | inr ne ↦ let same = get_or-set_other ends node i end 0 ne in same
         ∙ f.right i l (λ u. known (cc))
   ];
@@ -205,7 +204,7 @@ pub next_number : {links ends : List ℕ} {number : ℕ → ℕ} (node : ℕ) {n
     AreKnown links number ends → node < length links → next ≡ next_node links node → IsKnown ends next →
     get_or ends next 0 ≡ number (end_of links node)
 next_number {links} {number = number} node {next} s f h is known =
-    cc (f.right next (omega (arith, is, s.inside node h)) known, is, end-onward s node h)
+    cc (f.right next (omega arith) known, end-onward s node h)
 
 pub known_same : (ends : List ℕ) (node end : ℕ) → node < length ends → end ≢ uncounted →
     IsKnown (set ends node end) node

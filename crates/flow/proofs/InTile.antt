@@ -61,21 +61,19 @@ pub record IsPiece (d : Directed) (c : Cutting) (tile : ℕ) (b : Bounds) (links
 module _ {d : Directed} {c : Cutting} {tile : ℕ} {b : Bounds} {links : List ℕ}
     (s : IsPiece d c tile b links) where
   pub in_place : (i : ℕ) → i < length links → IsInBounds b (place_in b i)
-  in_place i h = place_in_bounds b i s.inside.some_col (omega (arith, h, s.made.size))
+  in_place i h = place_in_bounds b i s.inside.some_col (omega arith)
 
   pub link_is : (i : ℕ) → i < length links → next_node links i ≡ link_in d b i
-  link_is i h = s.made.each i (omega (arith, h, s.made.size))
+  link_is i h = s.made.each i (omega arith)
 
   pub links_inside : (i : ℕ) → i < length links → next_node links i < length links
   links_inside i h = elim (cases_bounds b (next d (place_in b i))) [
     | inl y ↦ omega (
       arith,
-      link_is i h,
-      link-in d b i y,
+      link-in,
       index_in_below b (next d (place_in b i)) y,
-      s.made.size,
     )
-    | inr n ↦ omega (arith, link_is i h, link-out d b i n)
+    | inr n ↦ omega (arith, link-out)
   ]
 
   pub node_inside : (i : ℕ) → i < length links → (k : ℕ) → node_after links i k < length links
@@ -103,7 +101,7 @@ module _ {d : Directed} {c : Cutting} {tile : ℕ} {b : Bounds} {links : List �
   stopped : {j k : ℕ} → FollowsLinks j k → IsStop links j k → FollowsLinks j (suc k)
   stopped t stop = record {
     met = t.met;
-    few = omega (arith, t.few);
+    few = omega arith;
     way = t.way;
     here = cc;
     done = inr (cc);
@@ -136,7 +134,7 @@ module _ {d : Directed} {c : Cutting} {tile : ℕ} {b : Bounds} {links : List �
           | inl y ↦ (let on = ap (next d) t.here in
               record {
                 met = suc t.met;
-                few = omega (arith, t.few);
+                few = omega arith;
                 way = way_on j _ t.way (rw on at y);
                 here = link_place _ (node_inside j h k) y ∙ on;
                 done = inl (ap suc same);
@@ -163,13 +161,13 @@ module _ {d : Directed} {c : Cutting} {tile : ℕ} {b : Bounds} {links : List �
 
   pub coded_within : {p : Place} → IsCoded d p → IsWithin c p
   coded_within {p} is = let w = coded_inside is in
-      omega (arith, w.0, s.rows, w.1, s.cols)
+      omega arith
 
   pub few_cells : length links ≤ moves d
   few_cells =
-      let r : b.rows ≤ d.rows = omega (arith, s.inside.rows_inside, s.rows) in
-      let k : b.cols ≤ d.cols = omega (arith, s.inside.cols_inside, s.cols) in
-      omega (arith, s.made.size, mul-le-mul r k, mul_comm d.rows d.cols)
+      let r : b.rows ≤ d.rows = omega arith in
+      let k : b.cols ≤ d.cols = omega arith in
+      omega (arith, mul-le-mul r k)
 
   pub tile_is : (q : Place) → IsInBounds b q → tile_of_place c q ≡ tile
   tile_is q h = ((s.places q).1 h).1
@@ -185,7 +183,7 @@ module _ {d : Directed} {c : Cutting} {tile : ℕ} {b : Bounds} {links : List �
   exit_is i h is =
       let r = early_end links tile_streams.inside i h (length links) (tile_streams.ends i h) in
       let last : node_after links i r.0 ≡ end_of links i =
-      sym (node_stays links i r.0 (length links) (omega (arith, r.1)) r.2) in
+      sym (node_stays links i r.0 (length links) (omega arith) r.2) in
       let t = follows_links i h r.0 in
       let at : follow d (place_in b i) t.met ≡ place_in b (end_of links i) = sym t.here
       ∙ ap (place_in b) last in
@@ -194,7 +192,7 @@ module _ {d : Directed} {c : Cutting} {tile : ℕ} {b : Bounds} {links : List �
       let stop : next_node links (end_of links i) ≡ end_of links i = tile_streams.ends i h in
       let inside = node_inside i h (length links) in (
         t.met,
-        omega (arith, t.few, r.1, few_cells),
+        omega (arith, few_cells),
         stays_from_way (place_in b i) t.met t.way,
         at,
         (

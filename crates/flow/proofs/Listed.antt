@@ -63,12 +63,12 @@ row_added {v} {b} {r} {cells} {row} e a below is size made so_far =
     let more : (r + 1) * b.cols ≡ r * b.cols + b.cols = ap (λ n. n * b.cols) (omega arith)
     ∙ suc-mul r b.cols in
     record {
-      size = ap length made ∙ length-append cells row ∙ omega (arith, so_far.size, size, more);
+      size = ap length made ∙ length-append cells row ∙ omega arith;
       each = λ i h. elim (cases_lt i (r * b.cols)) [
-        | inl early ↦ cc (get_or_append_left cells row None i (omega (arith, so_far.size)), so_far.each i early)
+        | inl early ↦ cc (get_or_append_left cells row None i (omega arith), so_far.each i early)
         | inr late ↦
-            let inside : i - r * b.cols < b.cols = omega (arith, h, more, late) in
-            let at : r * b.cols + (i - r * b.cols) ≡ i = omega (arith, late) in
+            let inside : i - r * b.cols < b.cols = omega arith in
+            let at : r * b.cols + (i - r * b.cols) ≡ i = omega arith in
             ap (λ xs. get_or xs i None) made
             ∙ get_or-append_right cells row _ i None so_far.size late
             ∙ ap (λ xs. get_or xs (i - r * b.cols) None) is

@@ -57,8 +57,8 @@ next_touches p (Some c) = elim (cases_option (place_toward c p)) [
 pub few_cells : (b : Bounds) → b.top + b.rows ≤ longest_axis → b.left + b.cols ≤ longest_axis →
     b.rows * b.cols ≤ 2 ^ 24
 few_cells b rows cols =
-    let r : b.rows ≤ 4096 = omega (arith, rows) in
-    let k : b.cols ≤ 4096 = omega (arith, cols) in
+    let r : b.rows ≤ 4096 = omega arith in
+    let k : b.cols ≤ 4096 = omega arith in
     let most = mul-le-mul r k in
     omega arith
 
@@ -66,18 +66,18 @@ few_cells b rows cols =
 reach_parts : (cols i down right n : ℕ) → right < 4 → n < 16 →
     reach cols i (64 * down + right + 4 * n) ≡ i + down * cols + right
 reach_parts cols i down right n few below =
-    let rows : (64 * down + right + 4 * n) / 64 ≡ down = omega (arith, few, below) in
-    let across : (64 * down + right + 4 * n) % 4 ≡ right = omega (arith, few, below) in
-    omega (arith, ap (λ k. k * cols) rows, across)
+    let rows : (64 * down + right + 4 * n) / 64 ≡ down = omega arith in
+    let across : (64 * down + right + 4 * n) % 4 ≡ right = omega arith in
+    omega (arith, ap (λ k. k * cols) rows)
 
 told_parts : (down right n : ℕ) → right < 4 → n < 16 →
     code_told (64 * down + right + 4 * n) ≡ code_numbered n
-told_parts down right n few below = ap code_numbered (omega (arith, few, below))
+told_parts down right n few below = ap code_numbered (omega arith)
 
 pub stays : {b : Bounds} {i : ℕ} {code : Option ℕ} (n : ℕ) → n < 16 → code_numbered n ≡ code →
     link_by b i code ≡ i → IsMove b i code (65 + 4 * n)
 stays {b} {i} n below told stay = record {
-  leads = omega (arith, reach_parts b.cols i 1 1 n (omega arith) below, stay);
+  leads = omega (arith, reach_parts b.cols i 1 1 n (omega arith) below);
   tells = told_parts 1 1 n (omega arith) below ∙ told;
 }
 
@@ -106,11 +106,11 @@ module _ (b : Bounds) (i : ℕ) {p : Place} (at : p ≡ place_in b i) (code : Op
 
   pub down_few : (q.row + 1 - p.row ≤ 2) × (p.row ≤ q.row + 1)
   down_few = let t = rw (← is) at (next_touches p code) in
-      (omega (arith, t.row_down), t.row_up)
+      (omega arith, t.row_up)
 
   pub right_few : (q.col + 1 - p.col ≤ 2) × (p.col ≤ q.col + 1)
   right_few = let t = rw (← is) at (next_touches p code) in
-      (omega (arith, t.col_right), t.col_left)
+      (omega arith, t.col_left)
 
   pub moves_there : (n : ℕ) → n < 16 → code_numbered n ≡ code → IsInBounds b p → IsInBounds b q →
       IsMove b i code (64 * (q.row + 1 - p.row) + (q.col + 1 - p.col) + 4 * n)
@@ -123,7 +123,7 @@ module _ (b : Bounds) (i : ℕ) {p : Place} (at : p ≡ place_in b i) (code : Op
           right_few,
           strides _ _ _ b.cols rows,
           sym (index_in-place_in b i) ∙ ap (index_in b) (sym at),
-          link_inside inside,
+          link_inside,
         );
         tells = told_parts _ _ n (omega (arith, right_few)) few ∙ told;
       }
@@ -152,7 +152,7 @@ ten P ways eighth ninth n below = elim (cases_lt n 8) [
   | inl way ↦ ways n way
   | inr high ↦ elim (cases_eq n 8) [
     | inl is ↦ rw is eighth
-    | inr other ↦ subst P (omega (arith, high, below, other)) ninth
+    | inr other ↦ subst P (omega arith) ninth
   ]
 ]
 
@@ -161,7 +161,7 @@ module _ {b : Bounds} {r k : ℕ} (interior : IsInteriorAt b r k) where
   here = make_place (b.top + r) (b.left + k)
 
   here_is : here ≡ place_in b (r * b.cols + k)
-  here_is = sym (place_in_row b r k (omega (arith, interior.last_col)))
+  here_is = sym (place_in_row b r k (omega arith))
 
   at_here : r * b.cols + k ≡ (b.top + r - b.top) * b.cols + (b.left + k - b.left)
   at_here = let row : b.top + r - b.top ≡ r = omega arith in
@@ -169,8 +169,8 @@ module _ {b : Bounds} {r k : ℕ} (interior : IsInteriorAt b r k) where
 
   past_first : b.cols + 1 ≤ r * b.cols + k
   past_first =
-      let more : 1 * b.cols ≤ r * b.cols = mul-le-mul (omega (arith, interior.first_row)) (omega arith) in
-      omega (arith, interior.first_col)
+      let more : 1 * b.cols ≤ r * b.cols = mul-le-mul (omega arith) (omega arith) in
+      omega arith
 
   stays_interior : (code : Option ℕ) → option_and_then (λ c. place_toward c here) code ≡ None →
       link_by b (r * b.cols + k) code ≡ r * b.cols + k
@@ -181,17 +181,17 @@ module _ {b : Bounds} {r k : ℕ} (interior : IsInteriorAt b r k) where
       IsLeading b (r * b.cols + k) (Some n) (get_or interior_moves way 0)
   goes_on_way n way is below =
       let q = on_ways b.top b.left b.cols (r * b.cols + k) here (b.top + r - 1) (b.left + k - 1)
-      (omega (arith, interior.first_row)) (omega (arith, interior.first_col))
-      (omega (arith, interior.first_row)) (omega (arith, interior.first_col)) at_here way below in
+      (omega arith) (omega arith)
+      (omega arith) (omega arith) at_here way below in
       way_reach b.cols (r * b.cols + k) way below past_first
       ∙ ap (λ (n : ℕ). n + (b.cols + 1)) (sym q.1.index
       ∙ sym (link_inside b (r * b.cols + k) here_is (Some n)
       (sym (ap (λ (o : Option ℕ). unwrap_or (option_and_then (λ way. place_on way here) o) here) is
       ∙ ap (λ o. unwrap_or o here) q.1.on)) (
-        omega (arith, interior.first_row, q.1.touches.row_up),
-        omega (arith, interior.last_row, q.1.touches.row_down),
-        omega (arith, interior.first_col, q.1.touches.col_left),
-        omega (arith, interior.last_col, q.1.touches.col_right),
+        omega arith,
+        omega arith,
+        omega arith,
+        omega arith,
       )))
 
   goes : (n : ℕ) → n < 10 → IsLeading b (r * b.cols + k) (code_numbered n) (get_or interior_moves n 0)
@@ -222,21 +222,21 @@ link_below b i code h =
         cond-true _ (index_in b q) i y,
         index_in_below b q (in_bounds_parts b q y),
       )
-      | inr n ↦ omega (arith, cond-false _ (index_in b q) i n, h)
+      | inr n ↦ omega (arith, cond-false _ (index_in b q) i n)
     ]
 
 -- If P holds of an entry, and of x at index k, it holds of that entry once entry k is x.
 set_kept : (P : ℕ → ℕ → Type 0) (xs : List ℕ) (k x i : ℕ) → k < length xs → P k x → P i (get_or xs i 0) →
     P i (get_or (set xs k x) i 0)
 set_kept P xs k x i below here was = elim (cases_eq i k) [
-  | inl same ↦ rw same (rw (get_or-set_same xs k x 0 below) here)
-  | inr other ↦ rw (get_or-set_other xs k i x 0 other) was
+  | inl same ↦ rw same (rw (get_or-set_same) here)
+  | inr other ↦ rw (get_or-set_other) was
 ]
 
 pub each_set : (P : ℕ → ℕ → Type 0) (xs : List ℕ) (k x : ℕ) → k < length xs → P k x →
     ((i : ℕ) → i < k → P i (get_or xs i 0)) → (i : ℕ) → i < k + 1 → P i (get_or (set xs k x) i 0)
 each_set P xs k x below here each = below_more (λ i. P i _) k
-    (λ i early. set_kept P xs k x i below here (each i early)) (rw (get_or-set_same xs k x 0 below) here)
+    (λ i early. set_kept P xs k x i below here (each i early)) (rw (get_or-set_same) here)
 
 -- The list has the move of cell i.
 abbrev pub MoveAt : Bounds → List (Option ℕ) → List ℕ → ℕ → Type 0
@@ -253,10 +253,10 @@ pub moves_first : {b : Bounds} {cells : List (Option ℕ)} {moves : List ℕ} �
 moves_first {b} size s = record {
   size = cc;
   interior = λ row col at.
-      let high : row < b.rows = omega (arith, at.last_row) in
-      let wide : col < b.cols = omega (arith, at.last_col) in
-      s.each _ (omega (arith, size, mul-add-lt row _ col _ high wide)) b row col at;
-  sides = λ side none. absurd (omega (arith, none));
+      let high : row < b.rows = omega arith in
+      let wide : col < b.cols = omega arith in
+      s.each _ (omega (arith, mul-add-lt row _ col _ high wide)) b row col at;
+  sides = λ side none. absurd (omega arith);
 }
 
 pub moves_next : {b : Bounds} {cells : List (Option ℕ)} {moves : List ℕ} (side move : ℕ) →
@@ -266,13 +266,13 @@ pub moves_next : {b : Bounds} {cells : List (Option ℕ)} {moves : List ℕ} (si
 moves_next {b} {cells} {moves} side move below here s =
     let k = index_in b (side_place b b side) in
     let P : ℕ → ℕ → Type 0 = λ i move. IsMove b i (get_or cells i None) move in
-    let inside : k < length moves = omega (arith, below, s.size) in
+    let inside : k < length moves = omega arith in
     record {
       size = cc (length-set moves k move);
       interior = λ row col at. set_kept P moves k move _ inside here (s.interior row col at);
       sides = below_more (λ j. MoveAt b cells (set moves k move) (index_in b (side_place b b j))) side
           (λ j early. set_kept P moves k move _ inside here (s.sides j early))
-          (rw (get_or-set_same moves k move 0 inside) here);
+          (rw (get_or-set_same) here);
     }
 
 -- A cell is interior, or has a side number.
@@ -315,7 +315,7 @@ pub moves_all : {b : Bounds} {cells : List (Option ℕ)} {moves : List ℕ} (cou
 moves_all {b} {cells} {moves} count some_col all s = record {
   size = s.size;
   each = λ i below. elim (cases_rim b i some_col below) [
-    | inl rim ↦ rw (← rim.2) (s.sides _ (omega (arith, rim.1)))
+    | inl rim ↦ rw (← rim.2) (s.sides _ (omega arith))
     | inr inner ↦ rw (← inner.3) (s.interior _ _ inner.2)
   ];
 }
@@ -324,13 +324,12 @@ module _ {b : Bounds} {cells : List (Option ℕ)} {moves : List ℕ} (small : En
     (s : AreMovesOf b cells moves) where
   pub moves_fit : AreMoves b.cols moves
   moves_fit = record {
-    low = λ i h. omega (arith, (s.each i (omega (arith, h, s.size))).leads);
+    low = λ i h. omega (arith, (s.each i (omega arith)).leads);
     high = λ i h. omega (
       arith,
-      (s.each i (omega (arith, h, s.size))).leads,
-      link_below b i (get_or cells i None) (omega (arith, h, s.size)),
+      (s.each i (omega arith)).leads,
+      link_below,
       few_cells b small.few_rows small.few_cols,
-      small.few_cols,
     );
   }
 
@@ -341,18 +340,18 @@ module _ {b : Bounds} {cells : List (Option ℕ)} {moves : List ℕ} (small : En
       let made =
       length-map-range_with_len there 0 _ in
       same_number_lists _ _ (made ∙ s.size ∙ sym (length-map-range_with_len link 0 _))
-      (λ i h. (let below : i < b.rows * b.cols = omega (arith, h, made, s.size) in omega (
+      (λ i h. (let below : i < b.rows * b.cols = omega arith in omega (
         arith,
-        get_or-map-range_with_len there 0 (length moves) i i 0 (omega (arith, h, made)) (omega arith),
+        get_or-map-range_with_len there 0 (length moves) i i 0 (omega arith) (omega arith),
         get_or-map-range_with_len link 0 _ i i 0 below (omega arith),
         (s.each i below).leads,
       )))
 
   pub told_codes : length cells ≡ b.rows * b.cols → map code_told moves ≡ cells
   told_codes size = same_lists _ _ (cc (length-map moves code_told))
-      (λ i none h. (let below : i < length moves = omega (arith, h, length-map moves code_told) in
-      get_or-map code_told moves i 0 none below ∙ (s.each i (omega (arith, below, s.size))).tells
-      ∙ get_or_default cells i None none (omega (arith, below, s.size, size))))
+      (λ i none h. (let below : i < length moves = omega (arith, length-map moves code_told) in
+      get_or-map code_told moves i 0 none below ∙ (s.each i (omega arith)).tells
+      ∙ get_or_default cells i None none (omega arith)))
 
 pub moves_below : (cols : ℕ) (moves : List ℕ) {links : List ℕ} (i : ℕ) → moved_by cols moves ≡ links → i < length
     links →
@@ -371,8 +370,8 @@ pub next_read : {cols : ℕ} {moves links : List ℕ} (i : ℕ) {move : ℕ} →
 next_read {cols} {moves} {links} i {move} fit seen h read =
     let below = moves_below cols moves i seen h in
     let at = ap (reach cols i) (read ∙ get_or_default moves i move 0 below) in (
-      omega (arith, fit.low i below, at),
-      omega (arith, fit.high i below, at),
+      omega (arith, fit.low i below),
+      omega (arith, fit.high i below),
       ap (λ n. n - (cols + 1)) at
           ∙ sym (get_or-map-range_with_len (λ i. reach cols i _ - (cols + 1)) 0 _
           i i 0 below (omega arith)) ∙ ap (λ l. get_or l i 0) seen,

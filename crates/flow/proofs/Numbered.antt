@@ -29,7 +29,7 @@ pub outlet_number_few : (codes : List (Option ℕ)) → length codes ≤ 4096 * 
     (outlet_numbers codes).number i < uncounted
 outlet_number_few codes few i =
     let before = take i codes in
-    omega (arith, few, count_by-le-length is_outlet_code before, length-take i codes)
+    omega (arith, count_by-le-length, length-take i codes)
 
 -- The numbers of a tile's cells are below `uncounted`.
 pub numbers_few : {o : Outlets} {flows : List Flow} {n : EndNumbers} {f : Flow} → AreNumberedCells o flows n f →
@@ -64,7 +64,7 @@ module _ {d : Directed} {t : Cutting} {flows : List Flow} {o : Outlets} {n : End
   last_below p is =
       let w =
       coded_inside (coded_along s.are_flows.ends is (d.cols * d.rows)) in
-      omega (arith, index_below d.cols d.rows (last_of d p) w.0 w.1, s.size)
+      omega (arith, index_below d.cols d.rows (last_of d p) w.0 w.1)
 
   number_few : (p : Place) → IsCoded d p → end_number d n p < uncounted
   number_few p is = s.few _ (last_below p is)
@@ -76,9 +76,9 @@ module _ {d : Directed} {t : Cutting} {flows : List Flow} {o : Outlets} {n : End
         within = rw s.same_cutting (within_of s.are_flows is);
         numbered =
             let below : index_of o.cutting.cols (last_of d p) < n.cells =
-            omega (arith, last_below p is, ap (λ cols. index_of cols (last_of d p)) same_cols) in
+            omega (arith, last_below, ap (λ cols. index_of cols (last_of d p)) same_cols) in
             rw at below;
-        few = omega (arith, ap (number_at o.cutting.cols n) at, number_of_last p, number_few p is);
+        few = omega (arith, ap (number_at o.cutting.cols n) at, number_of_last, number_few);
       }
 
   other_place : (p : Place) → IsWithin t p → (IsExitCell d t p → ⊥) → IsNumberedPlace o flows n p
@@ -159,10 +159,10 @@ module _ {d : Directed} {t : Cutting} {flows : List Flow} {o : Outlets} {n : End
         small = omega (arith, right.lawful.exits_size, few_cells _ right.lawful.few_rows right.lawful.few_cols);
         places = λ i below.
             let tile_below : tile < tile_count t =
-            omega (arith, slice_get_within flows tile f there, s.are_flows.of_tiles.count) in
+            omega (arith, slice_get_within) in
             let inside = subst (λ b. IsInTile t tile (place_in b i))
             (sym right.bounds) (place_in_tile t tile i s.are_flows.cutting tile_below
-            (omega (arith, below, cell_size))) in
+            (omega (arith, cell_size))) in
             numbered_place _ inside.0;
       };
     }
@@ -185,7 +185,7 @@ module _ {d : Directed} {t : Cutting} {flows : List Flow} {o : Outlets} {n : End
         ∙ ap (λ l. get_or l (index_in f.bounds p) None) made
         ∙ get_or-map-range_with_len (λ i. where_data (get_or f.codes i None) (get_or numbers i 0)) 0 (length f.codes)
         _ _ None
-        (omega (arith, below, right.lawful.codes_size, right.lawful.exits_size)) (omega arith)
+        (omega (arith, right.lawful.codes_size, right.lawful.exits_size)) (omega arith)
         ∙ ap (λ o. where_data o (get_or numbers (index_in f.bounds p) 0))
         (code_entry p i) in
         elim (cases_coded d p) [

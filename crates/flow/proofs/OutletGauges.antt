@@ -46,8 +46,8 @@ module _ (cols rows : ℕ) where
   row_places r (suc n) le =
       let here : make_place r n ≡ at (r * cols + n) =
       same_place
-      (make_place r n) (at (r * cols + n)) (omega (arith, div-mul-add r cols n (omega arith)))
-      (omega (arith, mod-mul-add r cols n (omega arith))) in
+      (make_place r n) (at (r * cols + n)) (omega (arith, div-mul-add))
+      (omega (arith, mod-mul-add)) in
       ap (λ k. map (λ (c : ℕ). make_place r c) (range_with_len 0 k)) (sym (add-one n))
       ∙ map-range_with_len_more (λ (c : ℕ). make_place r c) 0 n n (omega arith)
       ∙ ap (λ l. l ++ make_place r n ∷ []) (row_places r n (omega arith))
@@ -104,9 +104,8 @@ module _ {X : Type 0} (f : ℕ → X) (p t : X → Bool) (j : ℕ) (here : p (f 
                     (p (f a)) (Some i) (position_from p (i + 1) rest) fails ∙ r.1 ∙ ap Some z,
                 omega (
                   arith,
-                  r.2,
                   sum_more (λ k. cond (t (f k)) 1 0) a,
-                  cond-true {A = ℕ} _ 1 0 is_t,
+                  cond-true {A = ℕ},
                 ),
               )
           | inr isnt_t ↦
@@ -115,9 +114,8 @@ module _ {X : Type 0} (f : ℕ → X) (p t : X → Bool) (j : ℕ) (here : p (f 
                 ap (position_from p i) (cond-false (t (f a)) (f a ∷ rest) rest isnt_t) ∙ r.1,
                 omega (
                   arith,
-                  r.2,
                   sum_more (λ k. cond (t (f k)) 1 0) a,
-                  cond-false {A = ℕ} _ 1 0 isnt_t,
+                  cond-false {A = ℕ},
                 ),
               )
         ]
@@ -152,12 +150,12 @@ module _ {d : Directed} (s : IsEnding d) (size : length d.codes ≡ d.cols * d.r
       let p = cell d k in
       let r : p.row - 0 ≡ p.row = omega arith in
       let c : p.col - 0 ≡ p.col = omega arith in
-      omega (arith, index_in-place_in (grid_of d) k, ap (λ n. n * d.cols) r, c)
+      omega (arith, ap (λ n. n * d.cols) r)
 
   code_of_cell : (k : ℕ) → k < d.rows * d.cols → code_at d (cell d k) ≡ get_or d.codes k None
   code_of_cell k below =
       let w = place_in_bounds (grid_of d) k s.some_col below in
-      cc (entry-inside d.cols d.rows d.codes (cell d k) (omega (arith, w)) (omega (arith, w)), index_of_cell k)
+      cc (entry-inside d.cols d.rows d.codes (cell d k) (omega arith) (omega arith), index_of_cell k)
 
   counted : (i : ℕ) → i ≤ d.rows * d.cols → count_by is_outlet_code (take i d.codes)
       ≡ sum_below (λ k. cond {A = ℕ} (is_outlet (cell d k)) 1 0) i
@@ -183,7 +181,7 @@ module _ {d : Directed} (s : IsEnding d) (size : length d.codes ≡ d.cols * d.r
       is_place q (cell d k) ≡ false
   other_index q is k less = false_from_ne_true _ (λ same.
       let e = ap (index_in (grid_of d)) (place_is q _ same)
-      ∙ index_in-place_in (grid_of d) k in omega (arith, e))
+      ∙ index_in-place_in (grid_of d) k in omega arith)
 
   pub outlet_number : (q : Place) → IsOutlet d q →
       gauge_number (outlets d) q ≡ 1 + count_by is_outlet_code (take (index_of d.cols q) d.codes)
@@ -212,7 +210,7 @@ module _ {d : Directed} (s : IsEnding d) (size : length d.codes ≡ d.cols * d.r
     | inl named ↦ named
     | inr isnt ↦ absurd (omega (
       arith,
-      outlet_number q is,
+      outlet_number,
       ap or_zero (position_none (is_place q) 1 _ isnt),
     ))
   ]
@@ -228,7 +226,7 @@ module _ {d : Directed} (s : IsEnding d) (size : length d.codes ≡ d.cols * d.r
         | inl w ↦
             let here = outlet_named (follow d p w.at) w.passes in
             let last = follow_stays d p w.at (moves d)
-            (omega (arith, w.below)) (outlet_stays d (follow d p w.at) here) in
+            (omega arith) (outlet_stays d (follow d p w.at) here) in
             cc (outlet_number (follow d p w.at) here)
         | inr w ↦
             let m = reached_early s is (moves d) refl in

@@ -40,10 +40,10 @@ pub ending_of : (d : Directed) {t : Cutting} → AllFlowEnds d → IsCutting t �
     × (d.rows ≡ t.rows) → IsEnding d
 ending_of d ends h size = record {
   ends = ends;
-  some_col = omega (arith, h.some_col, size.0);
-  some_row = omega (arith, h.some_row, size.1);
-  few_cols = omega (arith, h.few_cols, size.0);
-  few_rows = omega (arith, h.few_rows, size.1);
+  some_col = omega arith;
+  some_row = omega arith;
+  few_cols = omega arith;
+  few_rows = omega arith;
 }
 
 module _ {d : Directed} (s : IsEnding d) where
@@ -58,7 +58,7 @@ module _ {d : Directed} (s : IsEnding d) where
 
   pub in_grid : {p : Place} → IsCoded d p → IsInBounds (grid_of d) p
   in_grid is = let i = coded_inside is in
-      omega (arith, i.0, i.1)
+      omega arith
 
   pub cell_below : (p : Place) → IsCoded d p →
       index_in (grid_of d) p < d.rows * d.cols
@@ -88,8 +88,8 @@ module _ {d : Directed} (s : IsEnding d) where
     | inr far ↦ let r = path_stop c is in (
       r.0,
       r.1,
-      omega (arith, far, r.1),
-      cc (follow_stays d c r.0 k (omega (arith, far, r.1)) r.2),
+      omega arith,
+      cc (follow_stays d c r.0 k (omega arith) r.2),
     )
   ]
 
@@ -98,7 +98,7 @@ module _ {d : Directed} (s : IsEnding d) where
   early_move c is k goes =
       let r = path_stop c is in
       elim (cases_lt k r.0) [
-        | inl l ↦ omega (arith, r.1)
+        | inl l ↦ omega arith
         | inr far ↦ absurd (goes (follow_stays d c r.0 (suc k) (omega arith) r.2
             ∙ sym (follow_stays d c r.0 k far r.2)))
       ]
@@ -139,7 +139,7 @@ module _ {d : Directed} (s : IsEnding d) where
         | inl way ↦ inl (λ l le. last l le (λ less. way l less))
         | inr c ↦ inr (record {
           from = c.from;
-          before = omega (arith, c.before);
+          before = omega arith;
           outside = c.outside;
           inside = λ l lt le. last l le (λ less. c.inside l lt less);
         })
@@ -173,9 +173,9 @@ module _ {d : Directed} (s : IsEnding d) where
         | inl e ↦ e
         | inr r ↦ elim r [
           | inl l ↦ absurd (no_return _ k _ m a.inside
-              (omega (arith, a.before)) l b.outside b.before same)
+              (omega arith) l b.outside b.before same)
           | inr l ↦ absurd (no_return _ m _ k b.inside
-              (omega (arith, b.before)) l a.outside a.before (cc))
+              (omega arith) l a.outside a.before (cc))
         ]
       ]
 

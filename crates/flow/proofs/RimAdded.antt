@@ -131,8 +131,6 @@ module _ {t : Cutting} (h : IsCutting t) (listed : List ℕ) (tile : ℕ) (below
   adds_fit {b} e weights side {cell} {amount} is much few so_far fits =
       rw e (λ p i. omega (
         arith,
-        so_far p i,
-        fits p i,
         sum_more (λ k. adds t listed tile k p) side,
         adds_part h listed tile p (in_tile t tile p h below i) (side + 1) (omega arith),
         one_added e side is much p,
@@ -148,8 +146,6 @@ module _ {t : Cutting} (h : IsCutting t) (listed : List ℕ) (tile : ℕ) (below
       rw e at each p i in
       omega (
         arith,
-        one,
-        so_far p i,
         sum_more (λ k. adds t listed tile k p) side,
         one_added e side is much p,
       )
@@ -160,7 +156,6 @@ module _ {t : Cutting} (h : IsCutting t) (listed : List ℕ) (tile : ℕ) (below
       (bounds_of t tile) p) 0 ≡ get_or old (index_in (bounds_of t tile) p) 0 + inflow_by t listed p
   adds_done weights all so_far p i = omega (
     arith,
-    so_far p i,
     ap (sum_below (λ k. adds t listed tile k p)) all,
     adds_sum h listed tile p (in_tile t tile p h below i),
   )

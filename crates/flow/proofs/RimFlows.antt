@@ -83,7 +83,7 @@ target_in_tile t flows tile side f below is =
 module _ {d : Directed} {t : Cutting} {flows : List Flow} (s : AreFlowsOf d t flows) where
   pub within_of : {p : Place} → IsCoded d p → IsWithin t p
   within_of {p} is = let z = coded_inside is in
-      omega (arith, z.0, s.of_tiles.size.1, z.1, s.of_tiles.size.0)
+      omega arith
 
   stops_of : {p : Place} → IsCoded d p → StopsAt d p (moves d)
   stops_of {p} is = outlet_stays d _ (s.ends p _ is.is)
@@ -104,7 +104,7 @@ module _ {d : Directed} {t : Cutting} {flows : List Flow} (s : AreFlowsOf d t fl
   pub flow_of : (p : Place) → IsWithin t p → HasFlow p
   flow_of p w = elim (slice_get_cases flows (tile_of_place t p)).1 [
     | inl r ↦ record { flow = r.0; is = r.2; right = s.of_tiles.each _ _ r.2 }
-    | inr r ↦ absurd (omega (arith, tile_of_place_below t p s.cutting w, s.of_tiles.count, r.0))
+    | inr r ↦ absurd (omega (arith, tile_of_place_below t p s.cutting w))
   ]
 
   pub code_here : (p : Place) → IsWithin t p → code_in t flows p ≡ code_at d p
@@ -129,7 +129,7 @@ module _ {d : Directed} {t : Cutting} {flows : List Flow} (s : AreFlowsOf d t fl
       let touch = next_touches p (code_at d p) in
       elim (cases_eq (p.col + 1) ((own_bounds t p).left + (own_bounds t p).cols)) [
         | inl y ↦ y
-        | inr ne ↦ absurd (c.apart (in_tile t _ _ s.cutting below (omega (arith, a, touch.row_up, b, touch.row_down, e, touch.col_left, ne, touch.col_right))).1)
+        | inr ne ↦ absurd (c.apart (in_tile t _ _ s.cutting below (omega arith)).1)
       ]
 
   pub back : {p : Place} → LeavesTile p → rim_place t (rim_number t p) ≡ p
@@ -179,7 +179,7 @@ module _ {d : Directed} {t : Cutting} {flows : List Flow} (s : AreFlowsOf d t fl
       let out : (IsInBounds (bounds_of t tile) (next d p) → ⊥) =
       λ inside. false≢true (sym f ∙ in_bounds_from _ _ inside) in
       elim (cases_coded d p) [
-        | inl none ↦ absurd (out (rw (none_stays d p none) (in_bounds t tile p s.cutting i)))
+        | inl none ↦ absurd (out (rw (none_stays) (in_bounds t tile p s.cutting i)))
         | inr is ↦ record {
           coded = is;
           apart = λ same. out (in_bounds t tile _ s.cutting
@@ -222,7 +222,7 @@ module _ {d : Directed} {t : Cutting} {flows : List Flow} (s : AreFlowsOf d t fl
             none) ∙ e))
         | inr f ↦ (let right = s.of_tiles.each _ _ f.1 in
             let below : i / stride (bounds_of t 0) < tile_count t =
-            omega (arith, slice_get_within flows _ _ f.1, s.of_tiles.count) in
+            omega (arith, slice_get_within) in
             let at = sym (ap (option_and_then (λ f. target_in (bounds_of t 0) f side)) f.1) ∙ e in
             elim (cases_option (side_cell (bounds_of t 0) f.0.bounds side)) [
               | inl none ↦ absurd (none-some q
@@ -271,7 +271,7 @@ module _ {d : Directed} {t : Cutting} {flows : List Flow} (s : AreFlowsOf d t fl
     | inl z ↦ cc
     | inr ne ↦ elim cell.1 [
       | inl out ↦ sym h.3 ∙ follow_stays d e 0 _ (omega arith) (outlet_stays d e out)
-      | inr apart ↦ (let one : 1 < h.0 + 1 = omega (arith, ne) in
+      | inr apart ↦ (let one : 1 < h.0 + 1 = omega arith in
           absurd (apart (eqb-true _ _ (every_in_range
           (λ j. eqb (tile_of_place t (follow d e j)) (tile_of_place t e)) _ h.2 1 one))))
     ]
@@ -386,10 +386,10 @@ module _ {d : Directed} {t : Cutting} {flows : List Flow} (s : AreFlowsOf d t fl
 
     links_in : (i : ℕ) → i < rim_number_count t → next_node links i < rim_number_count t
     links_in i h = elim (cases_option (target_by t flows i)) [
-      | inl none ↦ omega (arith, link_at i h, untargeted i none)
+      | inl none ↦ omega (arith, link_at, untargeted)
       | inr q ↦ elim (next_or_last_exit i q.0 q.1) [
-        | inl g ↦ omega (arith, link_at i h, g.link, to_below g.crosses)
-        | inr e ↦ omega (arith, link_at i h, e.link)
+        | inl g ↦ omega (arith, link_at, to_below g.crosses)
+        | inr e ↦ omega (arith, link_at)
       ]
     ]
 
@@ -415,8 +415,8 @@ module _ {d : Directed} {t : Cutting} {flows : List Flow} (s : AreFlowsOf d t fl
 
     pub rim_streams : AreStreams links
     rim_streams = streams_from links (λ i h.
-        omega (arith, links_in i (omega (arith, h, links_size)), links_size))
-        (λ i h. stop_within _ i (omega (arith, h, links_size))
+        omega (arith, links_in, links_size))
+        (λ i h. stop_within _ i (omega (arith, links_size))
         (λ q e. stops_of (target_from i q e).crosses.coded))
 
     -- Rim number j has a target, and the flow paths of its cell and of the cell of i end at one
@@ -445,7 +445,7 @@ module _ {d : Directed} {t : Cutting} {flows : List Flow} (s : AreFlowsOf d t fl
     on_way i h q e zero = record { entry = q; target = e; last = refl }
     on_way i h q e (suc k) =
         step_on (omega
-        (arith, node_after-inside rim_streams i (omega (arith, h, links_size)) k, links_size))
+        (arith, node_after-inside rim_streams i (omega (arith, links_size)) k, links_size))
         (on_way i h q e k)
 
     module _ {ends : List ℕ} (found : AreEnds links ends) where
@@ -455,7 +455,7 @@ module _ {d : Directed} {t : Cutting} {flows : List Flow} (s : AreFlowsOf d t fl
           target_by t flows i ≡ Some q →
           rim_outlet t flows ends i ≡ Some (last_of d (rim_place t i))
       outlet_of i h q e =
-          let here : i < length links = omega (arith, h, links_size) in
+          let here : i < length links = omega (arith, links_size) in
           let below : end_of links i < rim_number_count t =
           omega (arith, node_after-inside rim_streams i here (length links), links_size) in
           let o = on_way i h q e _ in

@@ -46,7 +46,7 @@ module _ {d : Directed} {t : Cutting} {flows : List Flow} (s : AreFlowsOf d t fl
       let touch = next_touches p (code_at d p) in
       elim (cases_eq ((next d p).col + 1) ((bounds_of t (tile_of_place t (next d p))).left + (bounds_of t (tile_of_place t (next d p))).cols)) [
         | inl y ↦ y
-        | inr ne ↦ absurd (c.apart (sym (in_tile t _ p s.cutting below (omega (arith, a, i, touch.row_up, touch.row_down, b, e, touch.col_left, touch.col_right, ne))).1))
+        | inr ne ↦ absurd (c.apart (sym (in_tile t _ p s.cutting below (omega arith)).1))
       ]
 
   pub entry_back : {p : Place} → LeavesTile s p →
@@ -183,7 +183,7 @@ module _ {d : Directed} {t : Cutting} {flows : List Flow} (s : AreFlowsOf d t fl
     sends : (k i : ℕ) → i < rim_number_count t → entering t targets totals k i
         ≡ sent_to t k (target_by t flows i) (all_drained d (rim_place t i))
     sends k i h =
-        let at = summed.each i (omega (arith, h, links_size s made)) in
+        let at = summed.each i (omega (arith, links_size s made)) in
         ap (λ o. sent_to t k o (get_or totals i 0))
         (target_listed t flows asked i h)
         ∙ elim (cases_option (target_by t flows i)) [
@@ -214,7 +214,6 @@ module _ {d : Directed} {t : Cutting} {flows : List Flow} (s : AreFlowsOf d t fl
               sum_below (entering t targets totals n) (rim_number_count t)) (sym e) in
               omega (
                 arith,
-                same,
                 entering_is (ap (rim_place t) e),
                 entered_few (ending s counts) t (rim_place t k),
               )

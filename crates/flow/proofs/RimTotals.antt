@@ -48,7 +48,7 @@ module _ {d : Directed} {t : Cutting} {flows : List Flow} (s : AreFlowsOf d t fl
       | inr ne ↦ elim x.4.1 [
         | inl out ↦ inl (sym way
             ∙ follow_stays d q _ m far (cc (outlet_stays d e out)) ∙ x.3)
-        | inr apart ↦ inr (x.0, omega (arith, ne), x.3, apart)
+        | inr apart ↦ inr (x.0, omega arith, x.3, apart)
       ]
     ]
   ]
@@ -74,9 +74,9 @@ module _ {d : Directed} {t : Cutting} {flows : List Flow} (s : AreFlowsOf d t fl
 
   pub weight_few : (j : ℕ) → rim_weight t flows j ≤ 16777216
   weight_few j = elim (cases_option (target_by t flows j)) [
-    | inl none ↦ omega (arith, weight_untargeted j none)
+    | inl none ↦ omega (arith, weight_untargeted)
     | inr q ↦
-        omega (arith, weight_targeted j q.0 q.1, drained_inside_few ending t (rim_place t j))
+        omega (arith, weight_targeted, drained_inside_few ending t (rim_place t j))
   ]
 
   module _ {links : List ℕ} (made : links ≡ rim_links_by t flows) where
@@ -169,12 +169,12 @@ module _ {d : Directed} {t : Cutting} {flows : List Flow} (s : AreFlowsOf d t fl
       parts = elim (cases_Bool (drains_through d (rim_place t i) c)) [
         | inr n ↦ omega (
           arith,
-          counted_off d c n,
+          counted_off,
           counted_off d c
               (false_from_ne_true _ (λ y. let r = reached y in
               false≢true (sym n ∙ drains_at ending is _ r.1))),
           sum_below-none term (length links) (λ j l.
-              term_off j (omega (arith, l, links_size s made))
+              term_off j (omega (arith, links_size s made))
               (λ k way _ _ _. false≢true (sym n ∙ drains_at ending is k way))),
         )
         | inl y ↦ let m = drains_from ending c _ y in
@@ -184,14 +184,14 @@ module _ {d : Directed} {t : Cutting} {flows : List Flow} (s : AreFlowsOf d t fl
                   let r = reached_early ending is _ m.1 in
                   omega (
                     arith,
-                    counted_on is y,
+                    counted_on,
                     counted_on is (any_in_range (λ k.
                         is_place (rim_place t i) (follow d c k) && stays d t c k) _ _ r.1
                         (and_from _ _ (is_place_from _ _ (sym r.3))
-                        (still_from d t c _ (λ l le. way l (omega (arith, le, r.2))
+                        (still_from d t c _ (λ l le. way l (omega arith)
                         ∙ sym (way 0 (omega arith)))))),
                     sum_below-none term (length links) (λ j l.
-                        term_off j (omega (arith, l, links_size s made))
+                        term_off j (omega (arith, links_size s made))
                         (λ k at x _ _. never_enters ending In is _ (m.1 ∙ sym at) way x)),
                   )
               | inr x ↦ from_outside y _ m.1 x
@@ -210,16 +210,16 @@ module _ {d : Directed} {t : Cutting} {flows : List Flow} (s : AreFlowsOf d t fl
               let here = target_from s i q target in
               let on : (l : ℕ) → follow d (next d _) l
               ≡ follow d c (suc x.from + l) = λ l. follow_more d c _ l in
-              let all : suc x.from + (k - suc x.from) ≡ k = omega (arith, x.before) in
+              let all : suc x.from + (k - suc x.from) ≡ k = omega arith in
               let same : rim_place t i ≡ e.0 =
               elim (leaves_at _ _ e.1.leads
               _ (on _ ∙ ap (follow d c) all ∙ at) here.crosses) [
                 | inl y ↦ y
                 | inr far ↦ absurd (far.3 (ap (λ p. tile_of_place t (next d p)) (sym far.2)
                     ∙ ap (tile_of_place t) (on (suc far.0))
-                    ∙ x.inside (suc x.from + suc far.0) (omega arith) (omega (arith, far.1))
+                    ∙ x.inside (suc x.from + suc far.0) (omega arith) (omega arith)
                     ∙ sym (ap (tile_of_place t) (sym far.2 ∙ on far.0)
-                    ∙ x.inside (suc x.from + far.0) (omega arith) (omega (arith, far.1)))))
+                    ∙ x.inside (suc x.from + far.0) (omega arith) (omega arith))))
               ] in
               link_on cr coded (rw same at here.crosses) ∙ ap (rim_number t) (sym same) ∙ here.number
 
@@ -229,7 +229,7 @@ module _ {d : Directed} {t : Cutting} {flows : List Flow} (s : AreFlowsOf d t fl
               + sum_below term (length links)
           from_outside y k at x =
               let entry =
-              x.inside (suc x.from) (omega arith) (omega (arith, x.before)) in
+              x.inside (suc x.from) (omega arith) (omega arith) in
               let cr : LeavesTile s (follow d c x.from) = record {
                 coded = coded_along s.ends is _;
                 apart = λ z. x.outside (sym z ∙ entry);
@@ -241,16 +241,16 @@ module _ {d : Directed} {t : Cutting} {flows : List Flow} (s : AreFlowsOf d t fl
               x.outside (ap (tile_of_place t) (sym place ∙ ap (rim_place t) z))) in
               omega (
                 arith,
-                counted_on is y,
+                counted_on,
                 counted_off d c
                     (false_from_ne_true _ (λ z. let r = reached z in
                     never_enters ending In is _ (r.1 ∙ sym at) r.2 x)),
                 one_term term (length links) _ (omega (
                   arith,
-                  to_below s cr,
+                  to_below,
                   links_size s made,
                 ))
-                    (λ j l ne. term_off j (omega (arith, l, links_size s made))
+                    (λ j l ne. term_off j (omega (arith, links_size s made))
                     (λ m there z at_j number.
                     ne (sym number ∙ ap (rim_number t) (sym at_j ∙ ap (follow d c)
                     (enters_from_one ending In is (there ∙ sym at) z x))))),
@@ -284,10 +284,10 @@ module _ {d : Directed} {t : Cutting} {flows : List Flow} (s : AreFlowsOf d t fl
       )
 
       numbered : (i : ℕ) → i < length links → i < rim_number_count t
-      numbered i h = omega (arith, h, links_size s made)
+      numbered i h = omega (arith, links_size s made)
 
       linked : (i : ℕ) → i < rim_number_count t → i < length links
-      linked i h = omega (arith, h, links_size s made)
+      linked i h = omega (arith, links_size s made)
 
       pub total_drained : (i : ℕ) (q : Place) → i < rim_number_count t →
           target_by t flows i ≡ Some q →
@@ -298,8 +298,8 @@ module _ {d : Directed} {t : Cutting} {flows : List Flow} (s : AreFlowsOf d t fl
           (λ k i l before q e. omega (
             arith,
             weight_at i (numbered i l),
-            weight_targeted i q e,
-            tallied i q e,
+            weight_targeted,
+            tallied,
             sums_same links i _ (λ j. all_drained d (rim_place t j))
                 (λ j m on. let o = leads_out i j (numbered j m) on in before j m on _ o.3),
           ))
@@ -311,8 +311,8 @@ module _ {d : Directed} {t : Cutting} {flows : List Flow} (s : AreFlowsOf d t fl
         | inl none ↦ omega (
           arith,
           (totals_are weights (rim_streams s made)).each i (linked i h),
-          weight_at i h,
-          weight_untargeted i none,
+          weight_at,
+          weight_untargeted,
           sum_below-none (λ j. upstream links j i (total links weights j))
               (length links)
               (λ j m.

@@ -75,7 +75,7 @@ module _ {d : Directed} (e : IsEnding d) {t : Cutting} {tile : ℕ} {b : Bounds}
     parts = elim (cases_Bool (R (place_in b i))) [
       | inr n ↦ omega (
         arith,
-        counted_off d q n,
+        counted_off,
         counted_off d q (false_from_ne_true _ (λ y.
             false≢true (sym n ∙ at (place_in b i) 0 (sym (place_is (place_in b i) q y)) start))),
         off (λ a goes far _. false≢true (sym n ∙ at (place_in b i) (suc a) goes far)),
@@ -91,7 +91,7 @@ module _ {d : Directed} (e : IsEnding d) {t : Cutting} {tile : ℕ} {b : Bounds}
                 ∙ sym goes) way (one_move e q (place_in b i) a goes apart) in
                 omega (
                   arith,
-                  counted_on is y,
+                  counted_on,
                   counted_on is
                       (is_place_from (place_in b i) q (sym (way 0 (omega arith)))),
                   off (λ a goes far out. here a goes (λ z. out (rw z (in_place s i h)))),
@@ -108,8 +108,8 @@ module _ {d : Directed} (e : IsEnding d) {t : Cutting} {tile : ℕ} {b : Bounds}
             + over + sum_below term (length links)
         arrives y k way far c =
             let goes : follow d q (suc c.from) ≡ place_in b i =
-            c.inside (suc c.from) (omega arith) (omega (arith, c.before)) in
-            let there : T (suc c.from) = less k (suc c.from) (omega (arith, c.before)) far in
+            c.inside (suc c.from) (omega arith) (omega arith) in
+            let there : T (suc c.from) = less k (suc c.from) (omega arith) far in
             let same : (a : ℕ) → follow d q (suc a) ≡ place_in b i → follow d q a ≢ place_in b i →
             a ≡ c.from =
             λ a moves apart. enters_from_one e (λ z. z ≡ place_in b i) is (moves
@@ -122,8 +122,8 @@ module _ {d : Directed} (e : IsEnding d) {t : Cutting} {tile : ℕ} {b : Bounds}
             elim (cases_bounds b (follow d q c.from)) [
               | inr out ↦ omega (
                 arith,
-                counted_on is y,
-                counted_off d q not_own,
+                counted_on,
+                counted_off,
                 on c.from goes there out,
                 sum_below-none term (length links) (λ j l. term_off j l (λ a moves apart _ at_j.
                     out (subst (λ p. IsInBounds b p) (sym at_j
@@ -131,7 +131,7 @@ module _ {d : Directed} (e : IsEnding d) {t : Cutting} {tile : ℕ} {b : Bounds}
               )
               | inl within ↦
                   let below : index_in b (follow d q c.from) < length links =
-                  omega (arith, index_in_below b (follow d q c.from) within, s.made.size) in
+                  omega (arith, index_in_below b (follow d q c.from) within) in
                   let back : place_in b (index_in b (follow d q c.from)) ≡ follow d q c.from =
                   place_in-index_in b (follow d q c.from) within in
                   let to : next d (place_in b (index_in b (follow d q c.from))) ≡ place_in b i =
@@ -145,15 +145,15 @@ module _ {d : Directed} (e : IsEnding d) {t : Cutting} {tile : ℕ} {b : Bounds}
                   leads_from links _ link (λ z. c.outside (sym back ∙ ap (place_in b) z)) in
                   omega (
                     arith,
-                    counted_on is y,
-                    counted_off d q not_own,
+                    counted_on,
+                    counted_off,
                     off (λ a moves _ out. out (rw (same a moves (λ z. out (rw z (in_place s i h)))) within)),
                     one_term term (length links) (index_in b (follow d q c.from)) below
                         (λ n l ne. term_off n l (λ a moves apart _ at_n. ne (sym (index_in-place_in
                         b n) ∙ ap (index_in b) (sym at_n ∙ ap (follow d q) (same a moves apart))))),
                     cond-true _ (counted d (R (place_in b (index_in b (follow d q c.from)))) q) 0 leads,
                     counted_on is
-                        (at _ c.from (sym back) (less k c.from (omega (arith, c.before)) far)),
+                        (at _ c.from (sym back) (less k c.from (omega arith) far)),
                   )
             ]
 
@@ -172,7 +172,7 @@ module _ {d : Directed} (e : IsEnding d) {t : Cutting} {tile : ℕ} {b : Bounds}
   tallied R over i h each none = omega (
     arith,
     counts_upstream d links i (λ j. R _) (λ q. own _ q + over _ q) each
-        (λ q n. omega (arith, counted_none d q (is_place (place_in b i) q) n, none q n)),
+        (λ q n. omega (arith, counted_none)),
     sum_below-add (λ c. own (place_in b i) (cell d c)) (λ c. over (place_in b i) (cell d c)) (d.rows * d.cols),
     own_sum,
   )
@@ -180,7 +180,7 @@ module _ {d : Directed} (e : IsEnding d) {t : Cutting} {tile : ℕ} {b : Bounds}
       own_sum : sum_below (λ c. own (place_in b i) (cell d c)) (d.rows * d.cols) ≡ weight_in d b i
       own_sum =
           let inside : IsInBounds (grid_of d) (place_in b i) =
-          (let x = in_place s i h in omega (arith, x, s.inside.rows_inside, s.rows, s.inside.cols_inside, s.cols)) in
+          (let x = in_place s i h in omega arith) in
           cc (
             one_term (λ c. own (place_in b i) (cell d c))
                 (d.rows * d.cols) (index_in (grid_of d) (place_in b i))
@@ -204,8 +204,7 @@ module _ {d : Directed} (e : IsEnding d) {t : Cutting} {tile : ℕ} {b : Bounds}
   all_totals weights weighed = record {
     each = λ i h. omega (
       arith,
-      weighed i h,
-      inflow_sum d t (place_in b i),
+      inflow_sum,
       tallied (drains_through d) (entered d t) i h (λ q is.
           parts is i h (λ p. drains_through d p q) (λ k. Unit) tt
           (λ p y. let m = drains_from e q p y in (m.0, m.1, tt)) (λ p k way _.
@@ -231,7 +230,7 @@ module _ {d : Directed} (e : IsEnding d) {t : Cutting} {tile : ℕ} {b : Bounds}
   own_totals weighed = record {
     each = λ i h. omega (
       arith,
-      weighed.each i (omega (arith, h, s.made.size)),
+      weighed.each i (omega arith),
       sum_below-none (λ c. 0) (d.rows * d.cols) (λ c _. refl),
       tallied (reaches_inside d t) (λ p q. 0) i h (λ q is.
           parts is i h (λ p. reaches_inside d t p q) (λ k. stays d t q k ≡ true) (begins q)

@@ -50,9 +50,9 @@ pub jobs_gave : {X E : Type 0} (P : ℕ → X → Type 0) (r : Result (Vec X Glo
     ((outs : List X) → length outs ≡ m → ((k : ℕ) (x : X) → slice_get outs k ≡ Some x → P k x) →
     Q outs) →
     IfOk r (λ v. vec_len v ≡ n) → IfOk r (λ v. AreResults P n v.items) → IfOk r (λ v. Q v.items)
-jobs_gave P (Ok v) Q same made len given = made _ (omega (arith, v.ok.0, len, same))
+jobs_gave P (Ok v) Q same made len given = made _ (omega arith)
     (λ k x there. rw (get_or_from_slice_get _ k x x there) at (given k x
-    (omega (arith, v.ok.0, len, slice_get_within _ k x there))))
+    (omega (arith, slice_get_within))))
 jobs_gave P (Err e) Q same made len given = len
 
 -- A list with each data cell's value at its place, and `None` at NODATA, is the map of these values

@@ -71,16 +71,16 @@ sums_le links i f g le =
     upstream links j i (g j)) (length links)
     (λ j l. elim (cases_Bool (leads_to links j i)) [
       | inl on ↦
-          omega (arith, cond-true _ (f j) 0 on, cond-true _ (g j) 0 on, le j l on)
-      | inr off ↦ omega (arith, cond-false _ (f j) 0 off, cond-false _ (g j) 0 off)
+          omega (arith, cond-true _ (f j) 0 on, cond-true _ (g j) 0 on)
+      | inr off ↦ omega (arith, cond-false _ (f j) 0 off, cond-false)
     ])
 
 pub sums_same : (links : List ℕ) (i : ℕ) (f g : ℕ → ℕ) → ((j : ℕ) → j < length links →
     leads_to links j i ≡ true → f j ≡ g j) → upstream_sum links f i ≡ upstream_sum links g i
 sums_same links i f g same = omega (
   arith,
-  sums_le links i f g (λ j l on. omega (arith, same j l on)),
-  sums_le links i g f (λ j l on. omega (arith, same j l on)),
+  sums_le links i f g (λ j l on. omega arith),
+  sums_le links i g f (λ j l on. omega arith),
 )
 
 -- Let f be at most w plus the sum of f over the donors, and g at least w plus the sum of g over the
@@ -90,7 +90,7 @@ pub totals_le : {links : List ℕ} → AreStreams links → (w f g : ℕ → ℕ
     ((i : ℕ) → i < length links → w i + upstream_sum links g i ≤ g i) → (i : ℕ) → i < length links →
     f i ≤ g i
 totals_le {links} streams w f g low high = each_downstream streams (λ _ i. f i ≤ g i)
-    (λ _ i h before. omega (arith, low i h, high i h, sums_le links i f g before))
+    (λ _ i h before. omega (arith, sums_le links i f g before))
 
 -- f of each node is the node's weight plus the sum of f over its donors.
 pub record AreTotals (links weights : List ℕ) (f : ℕ → ℕ) : Type 0 where
@@ -113,11 +113,11 @@ pub total_is : {links weights : List ℕ} {f : ℕ → ℕ} → AreStreams links
 total_is {links} {weights} {f} streams are i h = omega (
   arith,
   totals_le streams (λ j.
-      get_or weights j 0) f (total links weights) (λ j l. omega (arith, are.each j l)) (λ j l.
+      get_or weights j 0) f (total links weights) (λ j l. omega arith) (λ j l.
       omega (arith, (totals_are weights streams).each j l)) i h,
   totals_le streams (λ j. get_or weights j 0) (total links weights) f (λ j l.
       omega (arith, (totals_are weights streams).each j l)) (λ j l.
-      omega (arith, are.each j l)) i h,
+      omega arith) i h,
 )
 
 cond_add : (b : Bool) (m n : ℕ) → cond b (m + n) 0 ≡ cond b m 0 + cond b n 0
@@ -132,7 +132,6 @@ totals_add links v w both streams sum =
     total_is streams (record {
       each = λ i h. omega (
         arith,
-        sum i h,
         (totals_are v streams).each i h,
         (totals_are w streams).each i h,
         sum_below-same (λ j. upstream links j i (total links v j + total links w j))

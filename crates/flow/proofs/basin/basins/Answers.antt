@@ -19,11 +19,11 @@ exit_tiles-requires-clause-grid g c κs within =
 pub of_codes-requires : goal.of_codes-requires
 of_codes-requires g c =
     let t = c.args.tiling.now in
-    let most : t.cols * t.rows ≤ 4096 * 4096 =
+    let most =
     mul-le-mul c.cols.ensures.lawful.few_cols c.cols.ensures.lawful.few_rows in
     let flow = grid_flow t c.codes-codes.ensures.draining
     c.requires c.codes-codes.ensures.value in
-    omega (arith, most, flow.size)
+    omega arith
 
 pub number_cells-requires-clause-flows : goal.number_cells-requires-clause-flows
 number_cells-requires-clause-flows g c κs within =
@@ -38,24 +38,23 @@ number_cells-requires-clause-size g c κs within =
 pub number_cells-requires-clause-few : goal.number_cells-requires-clause-few
 number_cells-requires-clause-few g c κs within i below =
     let t = c.args.tiling.now in
-    let most : t.cols * t.rows ≤ 4096 * 4096 =
+    let most =
     mul-le-mul c.cols.ensures.lawful.few_cols c.cols.ensures.lawful.few_rows in
     let flow = grid_flow t c.codes-codes.ensures.draining
     c.requires c.codes-codes.ensures.value in
-    outlet_number_few c.in_ok-numbers.numbers
-    (omega (arith, most, flow.size, ap length c.in_ok-numbers.ensures)) i
+    outlet_number_few _
+    (omega (arith, ap length c.in_ok-numbers.ensures)) i
 
 pub returns-clause-values : goal.returns-clause-values
 returns-clause-values g c =
     let t = c.args.tiling.now in
     let codes = c.codes-codes.result.now in
     let d = directed_on t codes in
-    IfOk-weaker c.number_cells.result (λ (v : Vec (Option ℕ) Global).
+    IfOk-weaker _ (λ v.
     (d : Directed) → AreFlowsOf d t c.in_ok-flows.flows.items →
     IsMapOf d (end_number d (outlet_numbers c.in_ok-numbers.numbers)) v.items)
-    (λ (v : Vec (Option ℕ) Global). AreBasins (directed_of c.args.d.now) v.items)
-    (λ v made. subst (λ x. AreBasins x v.items)
-    (directed_same c.args.d.now t c.requires c.codes-codes.ensures.value)
+    (λ v. AreBasins (directed_of c.args.d.now) v.items)
+    (λ v made. rw (← directed_same c.args.d.now t c.requires c.codes-codes.ensures.value)
     (subst (λ l. IsMapOf d (end_number d (outlet_numbers l)) v.items)
     c.in_ok-numbers.ensures (made d c.in_ok-flows.ensures.flows)))
     c.number_cells.ensures.values

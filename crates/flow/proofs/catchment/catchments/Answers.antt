@@ -16,19 +16,17 @@ cut_codes-requires-clause-size g c = (grid_flow c.args.tiling.now
 
 pub cut_codes-requires-clause-coded : goal.cut_codes-requires-clause-coded
 cut_codes-requires-clause-coded g c p named =
-    have_codes_in c.codes.ensures.draining c.args.gauges.now (sym c.first_fault.ensures
-    ∙ c.in_default.is) c.args.tiling.now c.requires c.codes.ensures.value p named
+    have_codes_in c.codes.ensures.draining _ (cc) c.args.tiling.now c.requires c.codes.ensures.value p named
 
 pub of_gauges-requires-clause-few : goal.of_gauges-requires-clause-few
 of_gauges-requires-clause-few g c =
-    few_gauges c.codes.ensures.draining c.args.gauges.now (sym c.first_fault.ensures
-    ∙ c.in_default.is)
+    few_gauges c.codes.ensures.draining _ (cc)
 
 pub of_gauges-requires-clause-within : goal.of_gauges-requires-clause-within
 of_gauges-requires-clause-within g c k d below =
-    let sound = all_sound c.codes.ensures.draining c.args.gauges.now
-    (sym c.first_fault.ensures ∙ c.in_default.is) k d below in
-    (omega (arith, sound.0.0, c.requires.1), omega (arith, sound.0.1, c.requires.0))
+    let sound = all_sound c.codes.ensures.draining _
+    (cc) k d below in
+    omega (arith, sound.0.0, c.requires.1, sound.0.1, c.requires.0)
 
 pub exit_tiles-requires-clause-grid : goal.exit_tiles-requires-clause-grid
 exit_tiles-requires-clause-grid g c κs within =
@@ -37,8 +35,8 @@ exit_tiles-requires-clause-grid g c κs within =
     let flow =
     grid_flow t c.codes.ensures.draining c.requires c.codes.ensures.value in
     let d = directed_on t codes in
-    let coded = have_codes_in c.codes.ensures.draining c.args.gauges.now
-    (sym c.first_fault.ensures ∙ c.in_default.is) t c.requires c.codes.ensures.value in
+    let coded = have_codes_in c.codes.ensures.draining _
+    (cc) t c.requires c.codes.ensures.value in
     rw c.deref.ensures.value (record {
       size = c.in_ok-codes.ensures.cut.size ∙ flow.size;
       ends = cut_ends (ending_of d flow.ends c.in_ok-codes.ensures.cutting

@@ -9,15 +9,14 @@ loop-row-preserved c =
     let v = c.args.codes.now in
     let made : c.extend_from_slice.new.self.items ≡ c.loop-row.cells.items ++ c.row.result.now =
     search rules in
-    let inside :
-    AreBounds c.args.codes.now.cutting (bounds_of c.args.codes.now.cutting c.args.codes.now.tile) =
+    let inside =
     rw c.bounds-bounds.ensures.value at c.bounds-bounds.ensures.inside in
-    let rows = ap (λ (b : Bounds). b.rows) c.bounds-bounds.ensures.value in
+    let rows = ap (λ b. b.rows) c.bounds-bounds.ensures.value in
     let so_far : AreFirstRows c.args.codes.now (bounds_of c.args.codes.now.cutting
     c.args.codes.now.tile) c.loop-row.row c.loop-row.cells.items =
     record { size = c.loop-row.invariant.size; each = c.loop-row.invariant.each } in
     let more = row_added refl inside
-    (omega (arith, c.loop-row-test.true, rows))
+    (omega arith)
     c.row.ensures.value c.row.ensures.size made so_far in
     record { size = more.size; each = more.each }
 

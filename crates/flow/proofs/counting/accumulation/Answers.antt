@@ -30,10 +30,10 @@ returns-clause-values g c =
     (grid_flow t c.codes.ensures.draining c.requires c.codes.ensures.value)
     c.in_ok-flows.ensures.flows
     c.in_ok-flows.ensures.counts c.deref.ensures.value c.in_ok-inflows.ensures.inflows in
-    IfOk-weaker c.map_tiles.result (λ (v : Vec (Option ℕ) Global).
+    IfOk-weaker _ (λ v.
     IsMadeMap t (IsCountAt t c.in_ok-flows.flows.items c.in_ok-inflows.inflows) v.items)
-    (λ (v : Vec (Option ℕ) Global). AreAccumulations (directed_of c.args.d.now) v.items)
-    (λ v made. whole_map c.args.d.now t c.requires c.codes.ensures.value accumulation v.items
-    made.size (λ p i. entry_of_map t (IsCountAt t c.in_ok-flows.flows.items c.in_ok-inflows.inflows)
-    v.items made p i codes counting))
+    (λ v. AreAccumulations (directed_of c.args.d.now) v.items)
+    (λ v made. whole_map c.args.d.now t c.requires c.codes.ensures.value accumulation _
+    made.size (λ p i. entry_of_map t _
+    _ made p i codes counting))
     c.map_tiles.ensures.made

@@ -8,12 +8,11 @@ pub add_to-requires-clause-size : goal.add_to-requires-clause-size
 add_to-requires-clause-size c = ap length c.deref_mut.ensures.value ∙ c.in_ok-weights.ensures.size ∙ c.requires.size
 
 pub add_to-requires-clause-fits : goal.add_to-requires-clause-fits
-add_to-requires-clause-fits c = λ p h.
+add_to-requires-clause-fits c p h =
     let i = index_in (bounds_of c.args.inflows.now.cutting c.args.tile) p in
     omega (
       arith,
-      c.requires.fits p h,
-      ap (λ (l : List ℕ). get_or l i 0) c.deref_mut.ensures.value,
+      ap (λ l. get_or l i 0) c.deref_mut.ensures.value,
       c.in_ok-weights.ensures.zeros i,
     )
 

@@ -8,12 +8,7 @@ use Rattle.flow.specs.Counting.{AreCounts}
 use Rattle.flow.proofs.counting.tile_counts.Goals as goal
 
 pub inflow_weights-requires-clause-size : goal.inflow_weights-requires-clause-size
-inflow_weights-requires-clause-size c = omega (
-  arith,
-  c.totals-totals.ensures.size,
-  c.requires.countable.linked,
-  c.requires.countable.size,
-)
+inflow_weights-requires-clause-size c = omega arith
 
 pub totals_of_few-requires-clause-streams : goal.totals_of_few-requires-clause-streams
 totals_of_few-requires-clause-streams c =
@@ -22,8 +17,6 @@ totals_of_few-requires-clause-streams c =
 pub totals_of_few-requires-clause-few : goal.totals_of_few-requires-clause-few
 totals_of_few-requires-clause-few c = omega (
   arith,
-  c.requires.countable.few,
-  c.requires.countable.linked,
   ap length c.links-links.ensures.links,
 )
 
@@ -31,25 +24,21 @@ pub totals_of_few-requires-clause-same : goal.totals_of_few-requires-clause-same
 totals_of_few-requires-clause-same c = omega (
   arith,
   c.in_ok-weights.ensures.size,
-  c.requires.countable.size,
-  c.requires.countable.linked,
   ap length c.links-links.ensures.links,
 )
 
 pub totals_of_few-requires-clause-fits : goal.totals_of_few-requires-clause-fits
-totals_of_few-requires-clause-fits c = λ i h.
+totals_of_few-requires-clause-fits c i h =
     omega (
       arith,
-      c.requires.countable.totals_fit c.in_ok-weights.weights.items c.in_ok-weights.ensures i
-          (omega (arith, h, c.requires.countable.linked, ap length c.links-links.ensures.links)),
+      c.requires.countable.totals_fit _ c.in_ok-weights.ensures i
+          (omega (arith, ap length c.links-links.ensures.links)),
       ap (λ l. total l c.in_ok-weights.weights.items i) c.links-links.ensures.links,
     )
 
 pub counts-requires-clause-totals : goal.counts-requires-clause-totals
 counts-requires-clause-totals c = omega (
   arith,
-  c.totals-totals.ensures.size,
-  c.requires.countable.linked,
   ap length c.links-links.ensures.codes,
 )
 
@@ -62,31 +51,30 @@ counts-requires-clause-added c =
     omega (
       arith,
       (added_by c.args.flow.now c.links-links.ensures.links c.in_ok-added.ensures).size,
-      c.requires.countable.linked,
       ap length c.deref.ensures.value,
       ap length c.links-links.ensures.codes,
     )
 
 pub counts-requires-clause-fits : goal.counts-requires-clause-fits
-counts-requires-clause-fits c = λ i h.
+counts-requires-clause-fits c i h =
     let below : i < length c.args.flow.now.codes =
-    omega (arith, h, ap length c.links-links.ensures.codes) in
+    omega (arith, ap length c.links-links.ensures.codes) in
     let there : i < length (links_by c.args.flow.now.bounds c.args.flow.now.codes) =
-    omega (arith, below, c.requires.countable.linked) in
+    omega arith in
     omega (
       arith,
       c.totals-totals.ensures.each i there,
       (added_by c.args.flow.now c.links-links.ensures.links c.in_ok-added.ensures).each i there,
-      c.requires.countable.totals_fit c.in_ok-weights.weights.items c.in_ok-weights.ensures i below,
-      ap (λ (l : List ℕ). get_or l i 0) c.deref.ensures.value,
+      c.requires.countable.totals_fit _ c.in_ok-weights.ensures i below,
+      ap (λ l. get_or l i 0) c.deref.ensures.value,
     )
 
 pub returns : goal.returns
 returns c =
-    IfOk-weaker c.counts.result
-    (λ (v : Vec (Option ℕ) Global). v.items ≡ counts_by c.links-links.result.now.codes
+    IfOk-weaker _
+    (λ v. v.items ≡ counts_by c.links-links.result.now.codes
     (λ i. slice_index c.totals-totals.result.now i + slice_index c.deref.result.now i))
-    (λ (v : Vec (Option ℕ) Global).
+    (λ v.
     AreCounts c.args.inflows.now c.args.tile c.args.flow.now v.items)
     (λ v e. record {
       weights = c.in_ok-weights.weights.items;
@@ -95,10 +83,10 @@ returns c =
       weighed = c.in_ok-weights.ensures;
       counted = c.totals-totals.ensures;
       summed = added_by c.args.flow.now c.links-links.ensures.links c.in_ok-added.ensures;
-      made = e ∙ ap (λ (x : List (Option ℕ)). counts_by x
+      made = e ∙ ap (λ x. counts_by x
           (λ i. slice_index c.totals-totals.result.now i + slice_index c.deref.result.now i))
           c.links-links.ensures.codes
-          ∙ ap (λ (l : List ℕ). counts_by c.args.flow.now.codes
+          ∙ ap (λ l. counts_by c.args.flow.now.codes
           (λ i. slice_index c.totals-totals.result.now i + slice_index l i))
           c.deref.ensures.value;
     }) c.counts.ensures

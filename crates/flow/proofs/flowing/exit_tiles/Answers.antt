@@ -9,7 +9,7 @@ pub returns-clause-flows : goal.returns-clause-flows
 returns-clause-flows g c =
     let t = c.args.tiling.now in
     let d = directed_on t c.args.codes.now in
-    jobs_gave (IsTileExits d t) c.run.result (AreFlowsOf d t) c.tiles.ensures.value
+    jobs_gave _ _ _ c.tiles.ensures.value
     (λ outs count each. record {
       cutting = c.tiles.ensures.lawful;
       ends = c.requires.grid.ends;

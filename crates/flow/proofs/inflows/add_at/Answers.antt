@@ -11,9 +11,9 @@ overflow_add-weights c =
     let fits : get_or c.args.weights.now c.index_of.result 0 + c.args.amount < 2 ^ 32 =
     omega (
       arith,
-      c.requires.fits c.in-Some.place inside,
+      c.requires.fits _ inside,
       ap (λ o. adds_at o c.args.amount c.in-Some.place) c.in-Some.is,
-      own_adds c.in-Some.place c.args.amount,
+      own_adds,
       ap (λ n. get_or c.args.weights.now n 0) c.index_of.ensures.value,
     ) in
     search rules

@@ -5,10 +5,5 @@ use Rattle.flow.proofs.inflows.rim_weights.Goals as goal
 
 pub returns : goal.returns
 returns c =
-    mapped_all (rim_weight c.args.tiling.now c.args.flows.now) c.loop-number.invariant
-    (omega (
-      arith,
-      c.loop-number-test.false,
-      c.loop-number.auto.number-end,
-      c.rim_number_count-count.ensures.value,
-    ))
+    mapped_all _ c.loop-number.invariant
+    (omega arith)

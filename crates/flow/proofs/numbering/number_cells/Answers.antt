@@ -11,7 +11,7 @@ use Rattle.flow.proofs.numbering.number_cells.Goals as goal
 
 pub invariant_of-map_tiles : goal.invariant_of-map_tiles
 invariant_of-map_tiles g c = record {
-  ready = ready (numbering_of c.in_ok-outlets.outlets (g.N.EndNumbering.numbers c.args.numbers)
+  ready = ready (numbering_of _ _
       c.requires.flows.1 c.in_ok-outlets.ensures.cutting c.in_ok-outlets.ensures.outlets
       c.requires.size c.requires.few);
 }
@@ -21,14 +21,14 @@ returns-clause-values g c =
     let t = c.args.tiling.now in
     let flows = c.args.flows.items in
     let o = c.in_ok-outlets.outlets in
-    let n = g.N.EndNumbering.numbers c.args.numbers in
-    IfOk-weaker c.map_tiles.result (λ (v : Vec (Option ℕ) Global).
+    let n = g.N.EndNumbering.numbers _ in
+    IfOk-weaker _ (λ v.
     IsMadeMap t (IsEndNumberAt t flows o n) v.items)
-    (λ (v : Vec (Option ℕ) Global). (d : Directed) → AreFlowsOf d t flows →
+    (λ v. (d : Directed) → AreFlowsOf d t flows →
     IsMapOf d (end_number d n) v.items)
     (λ v made d are.
-    let whole = map_of_size t d.cols d.rows (IsEndNumberAt t flows o n) v.items (sym are.of_tiles.size.0)
-    (sym are.of_tiles.size.1) made in
+    let whole = map_of_size t _ _ _ _ (cc)
+    (cc) made in
     record {
       size = whole.0;
       each = λ p i. whole.1 p i d (numbering_of o n are c.in_ok-outlets.ensures.cutting

@@ -10,18 +10,18 @@ use Rattle.flow.proofs.Ranges.{mapped_pushed, mapped_all}
 use Rattle.flow.proofs.rim_graph.push_targets.Goals as goal
 
 pub of_tile-flow-requires : goal.of_tile-flow-requires
-of_tile-flow-requires g c = omega (arith, c.requires.tile, c.requires.flows.1.of_tiles.count)
+of_tile-flow-requires g c = omega (arith, c.requires.flows.1.of_tiles.count)
 
 pub target_of-requires-clause-some_row : goal.target_of-requires-clause-some_row
 target_of-requires-clause-some_row g c =
     let s = c.requires.flows.1 in
     let flow = c.of_tile-flow.ensures in
-    let bounds = (s.of_tiles.each c.args.tile flow.0 flow.1).bounds in
+    let bounds = (s.of_tiles.each _ _ flow.1).bounds in
     omega (
       arith,
-      (bounds_inside c.args.tiling.now c.args.tile s.cutting c.requires.tile).some_row,
-      ap (λ (b : Bounds). b.rows) bounds,
-      ap (λ (f : Flow). f.bounds.rows) flow.2,
+      (bounds_inside _ _ s.cutting c.requires.tile).some_row,
+      ap (λ b. b.rows) bounds,
+      ap (λ f. f.bounds.rows) flow.2,
     )
 
 pub loop-side-preserved : goal.loop-side-preserved
@@ -33,16 +33,13 @@ loop-side-preserved g c =
     let below : c.loop-side.side < stride (bounds_of t 0) =
     omega (
       arith,
-      c.loop-side-test.true,
-      c.loop-side.auto.side-end,
-      c.side_count-side-end.ensures.value,
       ap stride c.bounds-largest.ensures.value,
     ) in
-    let target : c.target_of.result ≡ target_by t (g.F.ExitList.flows c.args.flows.now) (first + c.loop-side.side) =
+    let target =
     c.target_of.ensures
     ∙ ap (λ l. target_in l c.of_tile-flow.result.now c.loop-side.side) c.bounds-largest.ensures.value
-    ∙ ap (λ (f : Flow). target_in (bounds_of t 0) f c.loop-side.side) flow.2
-    ∙ sym (target_in_tile t flows c.args.tile c.loop-side.side flow.0 below flow.1) in
-    mapped_all (target_by t flows)
-    (mapped_pushed (target_by t flows) (first + c.loop-side.side) c.loop-side.invariant target
+    ∙ ap (λ f. target_in (bounds_of t 0) f c.loop-side.side) flow.2
+    ∙ sym (target_in_tile t flows _ _ _ below flow.1) in
+    mapped_all _
+    (mapped_pushed _ _ c.loop-side.invariant target
     c.in_ok-push.ensures.items) (omega arith)

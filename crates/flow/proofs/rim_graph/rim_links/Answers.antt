@@ -5,10 +5,5 @@ use Rattle.flow.proofs.rim_graph.rim_links.Goals as goal
 
 pub returns : goal.returns
 returns g c =
-    mapped_all (rim_link c.args.tiling.now (g.F.ExitList.flows c.args.flows.now)) c.loop-number.invariant
-    (omega (
-      arith,
-      c.loop-number-test.false,
-      c.loop-number.auto.number-end,
-      c.rim_number_count-count.ensures.value,
-    ))
+    mapped_all _ c.loop-number.invariant
+    (omega arith)

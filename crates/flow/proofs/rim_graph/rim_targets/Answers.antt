@@ -7,6 +7,6 @@ use Rattle.flow.proofs.rim_graph.rim_targets.Goals as goal
 
 pub returns : goal.returns
 returns g c =
-    mapped_all (target_by c.args.tiling.now (g.F.ExitList.flows c.args.flows.now)) c.loop-tile.invariant
+    mapped_all _ c.loop-tile.invariant
     (ap (λ n. n * stride (bounds_of c.args.tiling.now 0)) (omega
-    (arith, c.loop-tile-test.false, c.loop-tile.auto.tile-end, c.tiles-tile-end.ensures.value)))
+    arith))

@@ -30,8 +30,8 @@ path-smaller g c =
     omega (
       arith,
       ap (moves_left (g.L.Links.list c.args.links.now)) c.next-next.ensures,
-      moves_fall c.requires.streams c.path.node c.path.invariant.inside
-          (λ e. c.if-next-node.false (c.next-next.ensures ∙ e)),
+      moves_fall c.requires.streams _ c.path.invariant.inside
+          (λ e. c.if-next-node.false (cc)),
     )
 
 pub overflow_add-waits : goal.overflow_add-waits
@@ -47,9 +47,9 @@ returns-then-next-node g c =
     let entry = entry_new c.requires.few i.marks i.inside c.path-test.true in
     record {
       marks = mark_end c.requires.few i.marks i.inside entry c.path-test.true
-          (sym c.next-next.ensures ∙ c.if-next-node.true);
+          (cc);
       kept = λ j k. set_kept c.requires.few i.marks i.inside entry j (i.kept j k);
-      marked = λ _. set_from c.requires.few i.marks i.inside entry c.args.from i.marked;
+      marked = λ _. set_from c.requires.few i.marks i.inside entry _ i.marked;
     }
 
 pub returns : goal.returns

@@ -15,13 +15,13 @@ totals-requires-clause-streams c =
 pub totals-requires-clause-few : goal.totals-requires-clause-few
 totals-requires-clause-few c =
     let s = lists_seen c.in_ok-exits.ensures c.requires c.bounds.ensures.lawful in
-    omega (arith, few s, ap length c.links-links.ensures.links)
+    omega (arith, few, ap length c.links-links.ensures.links)
 
 pub totals-requires-clause-same : goal.totals-requires-clause-same
 totals-requires-clause-same c =
     let s = lists_seen c.in_ok-exits.ensures c.requires c.bounds.ensures.lawful in
     let weighed = c.in_ok-weights.ensures ∙ ap weights_by c.links-links.ensures.codes in
-    ap length weighed ∙ weights_size c.in_ok-exits.exits.codes ∙ sym (ap length c.links-links.ensures.links ∙ sizes s)
+    cc (weights_size c.in_ok-exits.exits.codes, sizes s)
 
 pub totals-requires-clause-fits : goal.totals-requires-clause-fits
 totals-requires-clause-fits c =
@@ -50,8 +50,8 @@ returns c =
     let s = lists_seen c.in_ok-exits.ensures c.requires c.bounds.ensures.lawful in
     let weighed = c.in_ok-weights.ensures ∙ ap weights_by c.links-links.ensures.codes in
     record {
-      exits = exits_kept (counts_by f.codes (slice_index totals))
+      exits = exits_kept _
           c.in_ok-exits.ensures;
       counts = counts_are s (summed_by f c.links-links.ensures.links weighed c.in_ok-totals.ensures)
-          (with_counts f totals) refl refl;
+          _ refl refl;
     }

@@ -14,7 +14,7 @@ rim_ends-requires-clause-few c =
     let s = lists_made c.requires c.bounds-bounds.ensures.value
     c.bounds-bounds.ensures.inside c.bounds-bounds.ensures.lawful c.in_ok-cells.ensures
     c.deref.ensures.value c.in_ok-links.ensures.links in
-    omega (arith, few s)
+    omega (arith, few)
 
 pub rim_ends-requires-clause-size : goal.rim_ends-requires-clause-size
 rim_ends-requires-clause-size c =

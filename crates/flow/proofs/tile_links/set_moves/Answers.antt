@@ -33,8 +33,4 @@ loop-side-preserved c =
     (moves_next c.loop-side.side move below here c.loop-side.invariant)
 
 pub returns : goal.returns
-returns c = moves_all c.loop-side.side c.requires.small.some_col (omega (
-  arith,
-  c.loop-side-test.false,
-  c.side_count-side-end.ensures.value,
-)) c.loop-side.invariant
+returns c = moves_all _ c.requires.small.some_col (omega arith) c.loop-side.invariant

@@ -9,7 +9,4 @@ returns g c _ i below =
     c.loop-node.invariant _ (omega (
       arith,
       end-inside streams i below,
-      c.loop-node-test.false,
-      c.loop-node.auto.node-end,
-      c.count-node-end.ensures,
     )) (streams.ends i below)

@@ -16,7 +16,7 @@ pub totals-requires-clause-few : goal.totals-requires-clause-few
 totals-requires-clause-few c = omega (
   arith,
   links_size c.requires.flows.1 c.requires.links,
-  few_numbers _ c.requires.flows.1.cutting,
+  few_numbers,
 )
 
 pub totals-requires-clause-same : goal.totals-requires-clause-same
@@ -30,7 +30,7 @@ totals-requires-clause-fits c i h =
     omega (
       arith,
       total_few c.requires.flows.1 c.requires.flows.2 made c.in_ok-weights.ensures i
-          (omega (arith, h, links_size c.requires.flows.1 made)),
+          (omega (arith, links_size c.requires.flows.1 made)),
     )
 
 pub send_all-requires-clause-targets : goal.send_all-requires-clause-targets

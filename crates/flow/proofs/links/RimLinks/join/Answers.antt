@@ -24,7 +24,7 @@ of_flows-requires-2-clause-flows c = (
 )
 
 pub returns-clause-links : goal.returns-clause-links
-returns-clause-links c = λ d ends of_tiles.
+returns-clause-links c d ends of_tiles =
     let s = flows_from c.cols.ensures.lawful ends of_tiles in
     links_are s
     c.in_ok-inflows.ensures.cutting c.in_ok-outlets.ensures.cutting
