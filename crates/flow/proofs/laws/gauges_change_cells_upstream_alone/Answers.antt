@@ -1,4 +1,3 @@
-use Rattle.drainage.specs.Drained.{directed_of}
 use Rattle.flow.proofs.CatchmentLaws.{catchment_kept}
 use Rattle.flow.proofs.laws.gauges_change_cells_upstream_alone.Goals as goal
 

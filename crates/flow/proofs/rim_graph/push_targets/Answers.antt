@@ -1,10 +1,8 @@
-use Rattle.std.proofs.Common.{◌≡◌, ◌+◌, ◌*◌, ◌<◌, sym, ap, ◌∙◌, arith}
+use Rattle.std.proofs.Common.{◌*◌, ◌<◌, sym, ap, ◌∙◌, arith}
 use Rattle.tiles.specs.Cutting.{bounds_of}
 use Rattle.tiles.specs.RimNumbers.{stride}
-use Rattle.tiles.specs.declared.bounds.Bounds.{Bounds}
 use Rattle.tiles.proofs.Cut.{bounds_inside}
-use Rattle.flow.specs.TileFlow.{Flow}
-use Rattle.flow.specs.RimGraph.{target_by, target_in}
+use Rattle.flow.specs.RimGraph.{target_in}
 use Rattle.flow.proofs.RimFlows.{target_in_tile}
 use Rattle.flow.proofs.Ranges.{mapped_pushed, mapped_all}
 use Rattle.flow.proofs.rim_graph.push_targets.Goals as goal
@@ -30,16 +28,9 @@ loop-side-preserved g c =
     let flows = g.F.ExitList.flows c.args.flows.now in
     let first = c.args.tile * stride (bounds_of t 0) in
     let flow = c.of_tile-flow.ensures in
-    let below : c.loop-side.side < stride (bounds_of t 0) =
-    omega (
-      arith,
-      ap stride c.bounds-largest.ensures.value,
-    ) in
+    let below : c.loop-side.side < stride (bounds_of t 0) = omega (arith, ap stride c.bounds-largest.ensures.value) in
     let target =
-    c.target_of.ensures
-    ∙ ap (λ l. target_in l c.of_tile-flow.result.now c.loop-side.side) c.bounds-largest.ensures.value
-    ∙ ap (λ f. target_in (bounds_of t 0) f c.loop-side.side) flow.2
-    ∙ sym (target_in_tile t flows _ _ _ below flow.1) in
-    mapped_all _
-    (mapped_pushed _ _ c.loop-side.invariant target
-    c.in_ok-push.ensures.items) (omega arith)
+    c.target_of.ensures ∙ ap (λ l. target_in l c.of_tile-flow.result.now c.loop-side.side)
+    c.bounds-largest.ensures.value ∙ ap (λ f. target_in (bounds_of t 0) f c.loop-side.side) flow.2 ∙
+    sym (target_in_tile t flows _ _ _ below flow.1) in
+    mapped_all _ (mapped_pushed _ _ c.loop-side.invariant target c.in_ok-push.ensures.items) (omega arith)

@@ -1,5 +1,5 @@
 use borrow.Author.Count.{below_more}
-use Rattle.std.proofs.Common.{◌≢◌, ℕ, get_or, arith}
+use Rattle.std.proofs.Common.{◌≢◌, get_or, arith}
 use Rattle.flow.specs.Sending.{IsMarked}
 use Rattle.flow.proofs.Sending.{marks_none}
 use Rattle.flow.proofs.streams.mark_paths.Goals as goal
@@ -16,5 +16,4 @@ loop-node-preserved g c = record {
 }
 
 pub returns-clause-marked : goal.returns-clause-marked
-returns-clause-marked g c i h =
-    c.loop-node.invariant.early i (omega arith)
+returns-clause-marked g c i h = c.loop-node.invariant.early i (omega arith)

@@ -1,8 +1,7 @@
-use Rattle.std.proofs.Common.{◌≡◌, ℕ, List, length, sym, ap, refl, ◌∙◌, arith}
-use Rattle.std.specs.Prelude.{slice_index}
+use Rattle.std.proofs.Common.{◌≡◌, ℕ, List, length, ap, refl, ◌∙◌, arith}
 use Rattle.flow.specs.Streams.{AreSums}
 use Rattle.flow.specs.TileFlow.{Flow}
-use Rattle.flow.specs.TileLinks.{links_by, weights_by, counts_by, with_counts}
+use Rattle.flow.specs.TileLinks.{links_by, weights_by}
 use Rattle.flow.proofs.Counted.{weights_size}
 use Rattle.flow.proofs.Piece.{lists_seen, streams, few, fits, sizes, counts_are, exits_kept}
 use Rattle.flow.proofs.tile.tile_flow.Goals as goal
@@ -31,8 +30,7 @@ totals-requires-clause-fits c =
 summed_by : (f : Flow) {links codes_weights totals : List ℕ} → links ≡ links_by f.bounds f.codes →
     codes_weights ≡ weights_by f.codes → AreSums links codes_weights totals →
     AreSums (links_by f.bounds f.codes) (weights_by f.codes) totals
-summed_by f made weighed summed =
-    rw weighed at (rw made at summed)
+summed_by f made weighed summed = rw weighed at (rw made at summed)
 
 pub invariant_of-result : goal.invariant_of-result
 invariant_of-result c =
@@ -50,8 +48,6 @@ returns c =
     let s = lists_seen c.in_ok-exits.ensures c.requires c.bounds.ensures.lawful in
     let weighed = c.in_ok-weights.ensures ∙ ap weights_by c.links-links.ensures.codes in
     record {
-      exits = exits_kept _
-          c.in_ok-exits.ensures;
-      counts = counts_are s (summed_by f c.links-links.ensures.links weighed c.in_ok-totals.ensures)
-          _ refl refl;
+      exits = exits_kept _ c.in_ok-exits.ensures;
+      counts = counts_are s (summed_by f c.links-links.ensures.links weighed c.in_ok-totals.ensures) _ refl refl;
     }

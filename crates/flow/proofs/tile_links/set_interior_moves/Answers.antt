@@ -11,12 +11,9 @@ loop-index-preserved c =
     let read = c.index-cells-index.is ∙ get_or_default cells k _ None (omega arith) in
     record {
       size = cc (length-set c.loop-index.moves k c.interior_move.result);
-      each = each_set (λ i move. IsInteriorMove (get_or cells i None) move) _ k _
-          (omega arith) (rw read at c.interior_move.ensures) c.loop-index.invariant.each;
+      each = each_set (λ i move. IsInteriorMove (get_or cells i None) move) _ k _ (omega arith)
+          (rw read at c.interior_move.ensures) c.loop-index.invariant.each;
     }
 
 pub returns : goal.returns
-returns c = record {
-  size = c.loop-index.invariant.size;
-  each = λ i h. c.loop-index.invariant.each i (omega arith);
-}
+returns c = record { size = c.loop-index.invariant.size; each = λ i h. c.loop-index.invariant.each i (omega arith) }

@@ -1,4 +1,3 @@
-use Rattle.std.proofs.Common.{ap, ◌∙◌}
 use Rattle.flow.proofs.Ending.{ends_here, moves_less, next_on_path}
 use Rattle.flow.proofs.ends.Paths.number_from.Goals as goal
 

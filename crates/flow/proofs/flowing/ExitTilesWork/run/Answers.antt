@@ -1,6 +1,3 @@
-use Rattle.std.proofs.Common.{sym, subst}
-use Rattle.drainage.specs.Drained.{AllFlowEnds}
-use Rattle.flow.specs.TileFlow.{directed_by}
 use Rattle.flow.proofs.flowing.ExitTilesWork.run.Goals as goal
 
 pub tile_exits-requires : goal.tile_exits-requires

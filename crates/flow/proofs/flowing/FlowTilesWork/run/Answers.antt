@@ -1,6 +1,3 @@
-use Rattle.std.proofs.Common.{sym, subst}
-use Rattle.drainage.specs.Drained.{AllFlowEnds}
-use Rattle.flow.specs.TileFlow.{directed_by}
 use Rattle.flow.proofs.flowing.FlowTilesWork.run.Goals as goal
 
 pub tile_flow-requires : goal.tile_flow-requires

@@ -1,5 +1,4 @@
 use Rattle.std.proofs.Common.{ap, ◌∙◌}
-use Rattle.flow.specs.TileFlow.{Flow}
 use Rattle.flow.specs.TileLinks.{links_by}
 use Rattle.flow.proofs.tile.TileFlow.links.Goals as goal
 

@@ -1,4 +1,3 @@
-use Rattle.std.proofs.Common.{ℕ, Vec, Global}
 use Rattle.std.proofs.lemmas.Result.{IfOk-weaker}
 use Rattle.flow.specs.Streams.{AreEndNumbers}
 use Rattle.flow.specs.Numbering.{AreExitNumbers}
@@ -9,5 +8,5 @@ pub returns : goal.returns
 returns g c =
     let number = (g.N.EndNumbering.numbers _).number in
     IfOk-weaker _ (λ v. AreEndNumbers c.self.inside.links.links number v.items)
-    (λ v. AreExitNumbers c.args.self.now number v.items)
-    (λ v are. exit_numbers_are c.self.invariant c.self.view_is c.requires.few are) c.end_numbers.ensures
+    (λ v. AreExitNumbers c.args.self.now number v.items) (λ v are. exit_numbers_are c.self.invariant c.self.view_is
+    c.requires.few are) c.end_numbers.ensures

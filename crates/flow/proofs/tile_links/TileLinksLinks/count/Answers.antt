@@ -1,6 +1,6 @@
 use Rattle.std.proofs.Common.{◌+◌, ◌-◌, length, get_or, ap, arith}
 use Rattle.std.proofs.lemmas.List.FromFn.{length-map-range_with_len}
-use Rattle.flow.specs.TileLinks.{LinkedCells, reach}
+use Rattle.flow.specs.TileLinks.{reach}
 use Rattle.flow.proofs.tile_links.TileLinksLinks.count.Goals as goal
 
 pub returns : goal.returns

@@ -1,5 +1,4 @@
 use Rattle.std.proofs.Common.{ap, ◌+◌, ◌*◌, ◌/◌, ◌%◌, ◌^◌, ◌<◌, arith, rules}
-use Rattle.flow.specs.TileLinks.{LinkedCells}
 use Rattle.flow.proofs.Moved.{moves_below, next_read}
 use Rattle.flow.proofs.tile_links.TileLinksLinks.next.Goals as goal
 
