@@ -54,8 +54,7 @@ same_gauge gauges p q a b same =
     let u = position_of (is_place p) 1 gauges a in
     let v = position_of (is_place q) 1 gauges b in
     let at : u.at ≡ v.at = omega (arith, ap or_zero u.found, ap or_zero v.found) in
-    place_is p (get_or gauges u.at p) (u.passes p) ∙ ap (λ k. get_or gauges k p) at ∙
-    sym (place_is q (get_or gauges v.at p) (v.passes p))
+    place_is p _ (u.passes p) ∙ ap (λ k. get_or gauges k p) at ∙ sym (place_is q _ (v.passes p))
 
 pub some_number : (gauges : List Place) (p : Place) → list_any (is_place p) gauges ≡ true → 0 < gauge_number gauges p
 some_number gauges p a = let u = position_of _ 1 gauges a in
@@ -76,8 +75,7 @@ module _ {d : Directed} (s : IsEnding d) (gauges : List Place) {g : Place} (is :
       elim (cases_first is_gauge (follow d q) (moves d)) [
         | inr w ↦ absurd (false≢true (sym (w.fails m.0 m.1) ∙ there))
         | inl w ↦ elim (cases_place (follow d q w.at) g) [
-          | inl same ↦ ap (λ (o : Option Place). option_map_or (gauge_number gauges) o 0) w.found ∙
-              ap (gauge_number gauges) same
+          | inl same ↦ cc
           | inr apart ↦ elim (cases_lt m.0 w.at) [
             | inl early ↦ absurd (false≢true (sym (w.before m.0 early) ∙ there))
             | inr late ↦
@@ -113,7 +111,7 @@ module _ {d : Directed} (s : IsEnding d) (gauges : List Place) {g : Place} (is :
         | inl none ↦
             let off = ap is_some none in
             cond-false {A = ℕ} _ 1 0 (and_left _ _ off) ∙ sym (cond-false _ 1 0 (and_left _ _ (and_left _ _ off)))
-        | inr coded ↦ cc (caught_same q coded, and_on (is_some (code_at d q)) (not_from_false _ (other_test s g q ne)))
+        | inr coded ↦ cc (caught_same q coded, and_on _ (not_from_false _ (other_test s g q ne)))
       ]) (counted_on is (caught_same g is ∙ drains_itself s g))
       (cond-false _ 1 0 (and_left _ _ (and_right _ _ (not_from_true _ (is_place_from g g refl)))))
 

@@ -5,7 +5,7 @@ use Rattle.std.proofs.lemmas.Option.{none-some}
 use Rattle.terrain.proofs.Options.{cases_option}
 use Rattle.terrain.specs.declared.place.Place.{Place}
 use Rattle.terrain.proofs.Places.{inside_from_entry}
-use Rattle.drainage.specs.Following.{Directed, code_at, next, follow, moves, last_of, IsOutlet}
+use Rattle.drainage.specs.Following.{Directed, code_at, next, follow, moves, IsOutlet}
 use Rattle.drainage.specs.Drained.{AllFlowEnds}
 use Rattle.flow.proofs.Ending.{stays_from}
 
@@ -58,11 +58,10 @@ pub coded_along : {d : Directed} → AllFlowEnds d → {p : Place} → IsCoded d
 coded_along {d} ends {p} c k = elim (cases_coded d (follow d p k)) [
   | inr is ↦ is
   | inl none ↦ elim (cases_lt (moves d) k) [
-    | inr le ↦ (let last = follow_stays d p k (moves d) le (none_stays d (follow d p k) none) in
+    | inr le ↦ (let last = follow_stays d p k (moves d) le (none_stays d _ none) in
         absurd (none-some 0 (sym none ∙ sym (ap (code_at d) last) ∙ ends p c.code c.is)))
-    | inl lt ↦ (let last = follow_stays d p (moves d) k (omega arith) (outlet_stays d (last_of d p)
-        (ends p c.code c.is)) in
-        record { code = 0; is = ap (code_at d) last ∙ ends p c.code c.is })
+    | inl lt ↦ (let last = follow_stays d p (moves d) k (omega arith) (outlet_stays d _ (ends p c.code c.is)) in
+        record { code = 0; is = cc (ends p c.code c.is) })
   ]
 ]
 

@@ -1,7 +1,7 @@
 -- With gauges as outlets, the gauge numbers of the ends of flow paths are the catchments.
 use Rattle.std.proofs.Common.{◌≡◌, ℕ, zero, suc, ◌+◌, ◌<◌, ◌≤◌, ◌⊎◌, inl, inr, Bool, true, false, cond, List, [], ◌∷◌, ◌++◌, length, map, get_or, Option, None, Some, IsSome, unwrap_or, sym, ap, refl, ◌∙◌, arith, add-one}
 use Rattle.std.specs.Prelude.{◌==◌}
-use Rattle.std.specs.Option.{option_or, option_map_or}
+use Rattle.std.specs.Option.{option_or}
 use Rattle.std.specs.List.{find, list_any, position_from, range_with_len, All}
 use Rattle.std.proofs.lemmas.Bool.{cases_Bool, cases_lt, cond-true, cond-false, eq-eqb, ne_eqb, or_parts, false≢true}
 use Rattle.std.proofs.lemmas.List.Folds.{find-append, list_any_at}
@@ -40,7 +40,7 @@ pub record IsAbsent {X : Type 0} (test : X → Bool) (f : ℕ → X) (n : ℕ) :
 module _ {X : Type 0} (test : X → Bool) (f : ℕ → X) where
   pub found_next : (n : ℕ) → find test (map f (range_with_len 0 (suc n))) ≡ option_or
       (find test (map f (range_with_len 0 n))) (cond (test (f n)) (Some (f n)) None)
-  found_next n = cc (add-one n, mapped_next f n, find-append test (map f (range_with_len 0 n)) (f n ∷ []))
+  found_next n = cc (add-one n, mapped_next f n, find-append test _ (f n ∷ []))
 
   pub cases_first : (n : ℕ) → IsFirst test f n ⊎ IsAbsent test f n
   cases_first zero = inr (record { fails = λ j below. absurd (omega arith); found = refl })
@@ -138,7 +138,7 @@ module _ {d : Directed} (s : IsEnding d) {gauges : List Place} {codes : List (Op
   last_first : (p : Place) → (w : IsFirst is_gauge (follow d p) (moves d)) → last_of cut_d p ≡ follow d p w.at
   last_first p w =
       let here = follows p _ w.before in
-      follow_stays cut_d p _ _ (omega arith) (ap (next cut_d) here ∙ stays _ w.passes ∙ sym here) ∙ here
+      follow_stays cut_d p _ _ (omega arith) (cc (stays _ w.passes)) ∙ here
 
   last_absent : (p : Place) → IsAbsent is_gauge (follow d p) (moves d) → last_of cut_d p ≡ last_of d p
   last_absent p w = follows p _ w.fails
@@ -150,12 +150,8 @@ module _ {d : Directed} (s : IsEnding d) {gauges : List Place} {codes : List (Op
   -- The catchment of a data cell p is the gauge number of the end of p's path in the cut map.
   pub caught : (p : Place) → IsCoded d p → gauge_number gauges (last_of cut_d p) ≡ catchment d gauges p
   caught p is = elim (cases_first is_gauge (follow d p) (moves d)) [
-    | inl w ↦ ap (gauge_number gauges) (last_first p w) ∙
-        sym (ap (λ (o : Option Place). option_map_or (gauge_number gauges) o 0) w.found)
-    | inr w ↦
-        ap (gauge_number gauges) (last_absent p w) ∙
-        ap or_zero (position_none (is_place (last_of d p)) 1 gauges (no_gauge_last is w)) ∙
-        sym (ap (λ (o : Option Place). option_map_or (gauge_number gauges) o 0) w.found)
+    | inl w ↦ cc (last_first p w)
+    | inr w ↦ cc (last_absent p w, position_none (is_place (last_of d p)) 1 gauges (no_gauge_last is w))
   ]
 
   coded_of : (p : Place) (o : Option ℕ) → code_at d p ≡ o → IsSome o → IsCoded d p
@@ -181,8 +177,8 @@ module _ {d : Directed} (s : IsEnding d) {gauges : List Place} {codes : List (Op
   cut_ends p code e =
       let is = coded_from_cut (record { code = code; is = e }) in
       elim (cases_first is_gauge (follow d p) (moves d)) [
-        | inl w ↦ ap (code_at cut_d) (last_first p w) ∙ cut.at_gauges _ w.passes
-        | inr w ↦ ap (code_at cut_d) (last_absent p w) ∙ cut.elsewhere _ (no_gauge_last is w) ∙ s.ends p _ is.is
+        | inl w ↦ cc (last_first p w, cut.at_gauges _ w.passes)
+        | inr w ↦ cc (last_absent p w, cut.elsewhere _ (no_gauge_last is w), s.ends p _ is.is)
       ]
 
   -- Two data cells have the same row-order index exactly if they are the same cell.
@@ -208,14 +204,14 @@ module _ {d : Directed} (s : IsEnding d) {gauges : List Place} {codes : List (Op
     each = λ p inside. elim (cases_coded d p) [
       | inl none ↦ rw none (elim (cases_coded cut_d p) [
         | inl none_cut ↦ MatchOption-at_none _ _ none_cut (made.each p inside)
-        | inr is ↦ (let here = coded_from_cut is in absurd (none-some here.code (sym none ∙ here.is)))
+        | inr is ↦ (let here = coded_from_cut is in absurd (none-some here.code (cc)))
       ])
       | inr is ↦
           let there = coded_to_cut p is in
           let last = coded_from_cut (coded_along cut_ends there (moves cut_d)) in
           rw is.is (
-          MatchOption-at_some _ _ there.code there.is (made.each p inside) ∙
-          ap Some (numbers (index_of d.cols (last_of cut_d p)) ∙ numbered_at last ∙ caught p is)
+          MatchOption-at_some _ _ there.code there.is (made.each p inside) ∙ ap Some (numbers _ ∙ numbered_at last ∙
+          caught p is)
           )
     ];
   }

@@ -5,7 +5,7 @@ use Rattle.std.proofs.lemmas.Bool.{cond-true}
 use Rattle.std.proofs.Math.ListN.{length-map}
 use Rattle.std.proofs.lemmas.List.{get_or-map}
 use Rattle.std.proofs.lemmas.List.FromFn.{get_or-map-range_with_len, length-map-range_with_len}
-use Rattle.std.proofs.lemmas.Option.{none-some, same_Some}
+use Rattle.std.proofs.lemmas.Option.{none-some}
 use Rattle.terrain.specs.StoredCells.{uncounted}
 use Rattle.terrain.specs.declared.place.Place.{Place}
 use Rattle.tiles.specs.declared.bounds.Bounds.{Bounds}
@@ -28,11 +28,7 @@ use Rattle.flow.proofs.Moved.{few_cells}
 use Rattle.flow.proofs.TileTotals.{own_totals}
 
 pub bounds_end_in_grid : {t : Cutting} {b : Bounds} → IsCutting t → AreBounds t b → EndsInLargestGrid b
-bounds_end_in_grid h a = record {
-  some_col = a.some_col;
-  few_rows = omega (arith, h.few_rows, a.rows_inside);
-  few_cols = omega (arith, h.few_cols, a.cols_inside);
-}
+bounds_end_in_grid h a = record { some_col = a.some_col; few_rows = omega arith; few_cols = omega arith }
 
 pub links_from : {d : Directed} {b : Bounds} {cells : List (Option ℕ)} → AreTileCodes d b cells →
     AreTileLinks d b (links_by b cells)
@@ -47,7 +43,7 @@ pub weights_from : {d : Directed} {b : Bounds} {cells : List (Option ℕ)} → A
 weights_from {cells = cells} codes = record {
   size = length-map cells (λ code. cond (is_some code) 1 0) ∙ codes.size;
   each = λ i h. cc (
-    get_or-map (λ (code : Option ℕ). cond {A = ℕ} (is_some code) 1 0) cells i None 0 (omega (arith, codes.size)),
+    get_or-map (λ (code : Option ℕ). cond {A = ℕ} (is_some code) 1 0) cells i None 0 (omega arith),
     codes.each i h,
   );
 }
@@ -60,7 +56,7 @@ ends_are links = record {
 
 placed : (b : Bounds) (code : Option ℕ) (n : ℕ) (e : Place) → where_data code (place_in b n) ≡ Some e → n ≡ index_in b e
 placed b None n e is = absurd (none-some e is)
-placed b (Some code) n e is = cc (index_in-place_in b n, same_Some (place_in b n) e is)
+placed b (Some code) n e is = cc (index_in-place_in b n)
 
 -- In the lists of one flow each cell has a link, and `ends_by` lists the ends of paths.
 module _ {b : Bounds} {cells : List (Option ℕ)} {links rim_ends : List ℕ} (s : AreFlowLists b cells links rim_ends)
@@ -69,7 +65,7 @@ module _ {b : Bounds} {cells : List (Option ℕ)} {links rim_ends : List ℕ} (s
     as_many_links = cc (length-map-range_with_len (λ i. link_by b i (get_or cells i None)) 0 (b.rows * b.cols))
 
     pub end_listed : (i : ℕ) → i < length cells → end_of links i ≡ get_or (ends_by links) i 0
-    end_listed i h = sym ((ends_are links).each i (omega (arith, h, as_many_links)))
+    end_listed i h = sym ((ends_are links).each i (omega (arith, as_many_links)))
 
     -- The numbers of the ends of paths are those of the exits.
     pub exit_numbers_are : {f : Flow} → flow_by b cells (ends_by links) ≡ f → {number : ℕ → ℕ} →
@@ -83,15 +79,11 @@ module _ {b : Bounds} {cells : List (Option ℕ)} {links rim_ends : List ℕ} (s
         record {
           size = are.size ∙ as_many_links ∙ sym size;
           few = λ i below.
-              let here : i < length links = omega (arith, below, size, as_many_links) in
-              omega (
-                arith,
-                are.each i here,
-                few (end_of links i) (omega (arith, end-inside s.streams i here, size, as_many_links)),
-              );
+              let here : i < length links = omega (arith, as_many_links) in
+              omega (arith, few (end_of links i) (omega (arith, end-inside s.streams i here, as_many_links)));
           each = λ i e below listed.
-              let inside : i < length cells = omega (arith, below, size) in
-              are.each i (omega (arith, inside, as_many_links)) ∙ ap number (end_listed i inside ∙
+              let inside : i < length cells = omega arith in
+              are.each i (omega (arith, as_many_links)) ∙ ap number (end_listed i inside ∙
               placed b _ _ e (sym (get_or-map-range_with_len exit 0 _ i i None inside (omega arith)) ∙ listed));
         }) few
 
@@ -157,13 +149,13 @@ module _ {v : View (Option ℕ)} {b : Bounds} {cells : List (Option ℕ)} {links
   total_drained_inside = total_is streams (own_totals ending piece weighs)
 
   pub fits : (i : ℕ) → i < length links → total links weights i < 2 ^ 32
-  fits i h = omega (arith, total_drained_inside i h, drained_inside_few ending v.cutting (place_in b i))
+  fits i h = omega (arith, total_drained_inside, drained_inside_few ending v.cutting (place_in b i))
 
   pub sizes : length links ≡ length cells
   sizes = piece.made.size ∙ sym s.codes.size
 
   in_cells : (p : Place) → IsInBounds b p → index_in b p < length cells
-  in_cells p h = omega (arith, index_in_below b p h, s.codes.size)
+  in_cells p h = omega (arith, index_in_below b p h)
 
   code_is : (p : Place) → IsInBounds b p → get_or cells (index_in b p) None ≡ code_at (directed_by v) p
   code_is p h = cc (s.codes.each (index_in b p) (index_in_below b p h), place_in-index_in b p h)
@@ -183,7 +175,7 @@ module _ {v : View (Option ℕ)} {b : Bounds} {cells : List (Option ℕ)} {links
         let at = place_in-index_in b p h in
         let i : index_in b p < length links = omega (arith, in_cells p h, sizes) in
         let there = rw (← at) at is in
-        omega (arith, summed.each _ i, total_drained_inside _ i, drained_inside_through ending v.cutting there) ∙
+        omega (arith, total_drained_inside, drained_inside_through ending v.cutting there) ∙
         ap (through_of (directed_by v) v.cutting) at
 
     pub counts_are : (f : Flow) → f.bounds ≡ b → f.through ≡ counts_by cells (slice_index totals) →

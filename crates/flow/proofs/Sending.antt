@@ -32,11 +32,11 @@ awaited_from : (links waits : List ℕ) (i j : ℕ) → 0 < waiting links waits 
     (has_sent waits j ≡ false)
 awaited_from links waits i j h = elim (cases_Bool (leads_to links j i && not (has_sent waits j))) [
   | inl y ↦ let w = and_parts _ _ y in (w.0, not-true _ w.1)
-  | inr n ↦ absurd (omega (arith, cond-false {A = ℕ} _ 1 0 n))
+  | inr n ↦ absurd (omega (arith, cond-false {A = ℕ}))
 ]
 
 open_from_count : (waits : List ℕ) (i : ℕ) → get_or waits i 0 < sent_entry → has_sent waits i ≡ false
-open_from_count waits i l = ne_eqb _ _ (λ e. omega (arith, e))
+open_from_count waits i l = ne_eqb _ _ (λ e. omega arith)
 
 -- A node that is no end leads to its link and to no other node.
 pub leads_test : (links : List ℕ) (node : ℕ) {next : ℕ} (i : ℕ) → next ≡ next_node links node → next ≢ node →
@@ -88,7 +88,6 @@ sums_from links weights waits totals s some = record {
   each = λ i h. sym (total_is {f = λ j. get_or totals j 0} s.streams (record {
     each = λ i h. omega (
       arith,
-      s.sums i h,
       sum_below-same _ (λ j. upstream links j i (get_or totals j 0)) _ (λ j l. sent_on-all links waits totals i j
           (all_sent s some j l)),
     );
@@ -113,16 +112,15 @@ marks_begin links weights waits streams few size fits node m marked = record {
   fits = fits;
   waits_size = m.size;
   totals_size = size;
-  counts = λ i h f. omega (arith, m.each i h, cond-false _ 0 (get_or waits i 0) f, cond_same (eqb node i));
+  counts = λ i h f. omega (arith, cond-false _ 0 (get_or waits i 0) f, cond_same);
   sums = λ i h. omega (arith, sum_below-none _ _ (none i));
   closed = λ i j h l on t. true_from_ne_false _ (λ f. omega (
     arith,
-    m.each i h,
     cond-true _ 0 (get_or waits i 0) t,
-    cond_same (eqb node i),
+    cond_same,
     term-le-sum_below (waiting links waits i) _ j l,
-    waiting-open links waits i j f,
-    cond-true {A = ℕ} _ 1 0 on,
+    waiting-open,
+    cond-true {A = ℕ},
   ));
 }
   where
@@ -142,17 +140,14 @@ pub donors_begin : (links weights waits : List ℕ) → AreStreams links → len
 donors_begin links weights waits streams few size fits d =
     let low : (i : ℕ) → i < length links → has_sent waits i ≡ false = λ i h. open_from_count waits i (omega (
       arith,
-      few,
-      d.each i h,
       sum_below-few (donor links i) (length links) (λ j l. bit_le _),
     )) in
     marks_begin links weights waits streams few size fits 0 (record {
       size = d.size;
       each = λ i h. omega (
         arith,
-        d.each i h,
         cond-false _ 0 (get_or waits i 0) (low i h),
-        cond_same (eqb 0 i),
+        cond_same,
         sum_below-same _ _ _ (λ j l. sym (waiting-open links waits i j (low j l))),
       );
     }) (λ i h ne e. false≢true (sym (low i h) ∙ eq-eqb _ _ e))
@@ -163,7 +158,6 @@ module _ {links waits : List ℕ} (few : length links ≤ 2 ^ 30) {node donors :
   donors_few : noted waits node + donors ≤ length links
   donors_few = omega (
     arith,
-    m.each node inside,
     cond-true _ donors 0 (eq-eqb node node refl),
     sum_below-few (waiting links waits node) (length links) (λ j l. bit_le _),
   )
@@ -175,18 +169,12 @@ module _ {links waits : List ℕ} (few : length links ≤ 2 ^ 30) {node donors :
   entry_added was = omega (arith, cond-false _ 0 (get_or waits node 0) (ne_eqb _ _ was))
 
   pub entry_fits : IsMarked waits node → get_or waits node 0 + donors < 2 ^ 32
-  entry_fits was = omega (arith, entry_added was, donors_few, few)
+  entry_fits was = omega (arith, entry_added, donors_few)
 
   -- The entry of `node` becomes one that counts all its donors.
   module _ {entry : ℕ} (counts : entry ≡ noted waits node + donors) where
     open_now : has_sent (set waits node entry) node ≡ false
-    open_now = open_from_count _ node (omega (
-      arith,
-      get_or-set_same waits node entry 0 (omega (arith, m.size, inside)),
-      counts,
-      donors_few,
-      few,
-    ))
+    open_now = open_from_count _ node (omega (arith, get_or-set_same waits node entry 0 (omega arith), donors_few))
 
     same_mark : (j : ℕ) → j ≢ node → has_sent (set waits node entry) j ≡ has_sent waits j
     same_mark j ne = cc (get_or-set_other waits node j entry 0 ne)
@@ -211,9 +199,7 @@ module _ {links waits : List ℕ} (few : length links ≤ 2 ^ 30) {node donors :
         arith,
         ap (noted (set waits node entry)) e,
         cond-false _ 0 (get_or (set waits node entry) node 0) open_now,
-        get_or-set_same waits node entry 0 (omega (arith, m.size, inside)),
-        counts,
-        m.each node inside,
+        get_or-set_same waits node entry 0 (omega arith),
         cond-true _ donors 0 (eq-eqb node node refl),
         ap (λ n. sum_below (waiting links waits n) (length links)) e,
       )
@@ -221,7 +207,6 @@ module _ {links waits : List ℕ} (few : length links ≤ 2 ^ 30) {node donors :
         arith,
         ap (λ b. cond b 0 (get_or (set waits node entry) i 0)) (same_mark i ne),
         ap (λ n. cond (has_sent waits i) 0 n) (get_or-set_other waits node i entry 0 ne),
-        m.each i h,
         cond-false _ donors 0 (ne_eqb node i (λ e. ne (cc))),
       )
     ]
@@ -237,8 +222,8 @@ module _ {links waits : List ℕ} (few : length links ≤ 2 ^ 30) {node donors :
           size = cc (length-set waits node entry);
           each = λ i h. omega (
             arith,
-            noted_all i h,
-            cond_same (eqb 0 i),
+            noted_all,
+            cond_same,
             sum_below-same (waiting links (set waits node entry) i) (waiting links waits i) (length links)
                 (λ j l. cc (same j)),
           );
@@ -249,7 +234,7 @@ module _ {links waits : List ℕ} (few : length links ≤ 2 ^ 30) {node donors :
           (waiting links (set waits node entry) i) (length links)
       marked_sum i h = omega (
         arith,
-        noted_all i h,
+        noted_all,
         sum_below-except (waiting links (set waits node entry) i) (waiting links waits i) _ node inside
             (λ j l ne. cc (same_mark j ne)),
         waiting-sent links waits i node (eq-eqb _ _ new),
@@ -259,18 +244,13 @@ module _ {links waits : List ℕ} (few : length links ≤ 2 ^ 30) {node donors :
       pub mark_on : {next : ℕ} → next ≡ get_or links node 0 → next ≢ node → AreMarks links (set waits node entry) next 1
       mark_on {next} is ne = record {
         size = cc (length-set waits node entry);
-        each = λ i h. omega (arith, marked_sum i h, ap (λ b. cond {A = ℕ} b 1 0) (leads_test links node i is ne));
+        each = λ i h. omega (arith, marked_sum, ap (λ b. cond {A = ℕ} b 1 0) (leads_test links node i is ne));
       }
 
       pub mark_end : get_or links node 0 ≡ node → AreMarks links (set waits node entry) 0 0
       mark_end end = record {
         size = cc (length-set waits node entry);
-        each = λ i h. omega (
-          arith,
-          marked_sum i h,
-          cond-false {A = ℕ} _ 1 0 (leads_end links i end),
-          cond_same (eqb 0 i),
-        );
+        each = λ i h. omega (arith, marked_sum, cond-false {A = ℕ} _ 1 0 (leads_end links i end), cond_same);
       }
 
 pub marks_none : (links waits : List ℕ) → AreUnmarked (length links) waits → AreMarks links waits 0 0
@@ -279,16 +259,13 @@ marks_none links waits none = record {
   each = λ i h. omega (
     arith,
     cond-true _ 0 (get_or waits i 0) (eq-eqb _ _ (none.each i h)),
-    cond_same (eqb 0 i),
+    cond_same,
     sum_below-none _ _ (λ j l. waiting-sent links waits i j (eq-eqb _ _ (none.each j l))),
   );
 }
 
 pub marks_of : {links waits : List ℕ} {from : ℕ} (node : ℕ) → AreMarks links waits from 0 → AreMarks links waits node 0
-marks_of {from = from} node m = record {
-  size = m.size;
-  each = λ i h. omega (arith, m.each i h, cond_same (eqb from i), cond_same (eqb node i));
-}
+marks_of {from = from} node m = record { size = m.size; each = λ i h. omega (arith, cond_same, cond_same) }
 
 -- One node sends its total.
 
@@ -306,24 +283,22 @@ module _ {links weights waits totals : List ℕ} (s : IsSending links weights wa
   so_far_le : (i : ℕ) → i < length links → get_or totals i 0 ≤ total links weights i
   so_far_le = totals_le s.streams (λ j. get_or weights j 0) (λ j. get_or totals j 0) _ (λ i h. omega (
     arith,
-    s.sums i h,
     sum_below-le _ (λ j. upstream links j i (get_or totals j 0)) (length links) (λ j l. part_le _ (has_sent waits j)
         (get_or totals j 0)),
   )) (λ i h. omega (arith, (totals_are weights s.streams).each i h))
 
   module _ (node : ℕ) (inside : node < length links) (ready : get_or waits node 0 ≡ 0) where
     node_open : has_sent waits node ≡ false
-    node_open = open_from_count waits node (omega (arith, ready))
+    node_open = open_from_count waits node (omega arith)
 
     donors_sent : (j : ℕ) → j < length links → leads_to links j node ≡ true → has_sent waits j ≡ true
     donors_sent j h on = elim (cases_Bool (has_sent waits j)) [
       | inl t ↦ t
       | inr f ↦ absurd (omega (
         arith,
-        ready,
         s.counts node inside node_open,
-        waiting-open links waits node j f,
-        cond-true {A = ℕ} _ 1 0 on,
+        waiting-open,
+        cond-true {A = ℕ},
         term-le-sum_below (waiting links waits node) _ j h,
       ))
     ]
@@ -337,7 +312,7 @@ module _ {links weights waits totals : List ℕ} (s : IsSending links weights wa
       arith,
       s.counts i h (next_open i h on),
       waiting-open links waits i node node_open,
-      cond-true {A = ℕ} _ 1 0 on,
+      cond-true {A = ℕ},
       term-le-sum_below (waiting links waits i) _ node inside,
     )
 
@@ -354,13 +329,8 @@ module _ {links weights waits totals : List ℕ} (s : IsSending links weights wa
 
       other_sent : (j : ℕ) → j < length links → j ≢ node → has_sent new_waits j ≡ has_sent waits j
       other_sent j h ne = elim (cases_Bool (leads_to links node j)) [
-        | inl on ↦ open_from_count new_waits j (omega (arith, m.fewer j ne, next_few j h on, s.few)) ∙
-            sym (next_open j h on)
-        | inr off ↦ (let same : get_or new_waits j 0 ≡ get_or waits j 0 = omega (
-          arith,
-          m.fewer j ne,
-          cond-false {A = ℕ} _ 1 0 off,
-        ) in cc)
+        | inl on ↦ open_from_count new_waits j (omega (arith, next_few)) ∙ sym (next_open j h on)
+        | inr off ↦ (let same : get_or new_waits j 0 ≡ get_or waits j 0 = omega (arith, cond-false {A = ℕ}) in cc)
       ]
 
       apart : (i : ℕ) → has_sent new_waits i ≡ false → i ≢ node
@@ -379,7 +349,7 @@ module _ {links weights waits totals : List ℕ} (s : IsSending links weights wa
       )
 
       totals_still : (j : ℕ) → leads_to links node j ≡ false → get_or new_totals j 0 ≡ get_or totals j 0
-      totals_still j off = omega (arith, m.more j, cond-false _ (get_or totals node 0) 0 off)
+      totals_still j off = omega (arith, cond-false _ (get_or totals node 0) 0 off)
 
       same_sent : (i j : ℕ) → j < length links → j ≢ node → sent_on links new_waits new_totals i j ≡ sent_on links waits
           totals i j
@@ -397,8 +367,6 @@ module _ {links weights waits totals : List ℕ} (s : IsSending links weights wa
           (sent_on links new_waits new_totals i) (length links)
       new_sums i h = omega (
         arith,
-        m.more i,
-        s.sums i h,
         sum_below-except _ _ _ node inside (same_sent i),
         sent_on-open links waits totals i node node_open,
         sent_on-all links new_waits new_totals i node sent_now,
@@ -447,14 +415,14 @@ next_totals_list totals node next = set totals next (get_or totals next 0 + get_
 module _ {links weights waits totals : List ℕ} (s : IsSending links weights waits totals) (node : ℕ) {next : ℕ}
     (inside : node < length links) (ready : get_or waits node 0 ≡ 0) (is : next ≡ get_or links node 0) where
   sent : get_or (set waits node sent_entry) node 0 ≡ sent_entry
-  sent = get_or-set_same waits node sent_entry 0 (omega (arith, s.waits_size))
+  sent = get_or-set_same waits node sent_entry 0 (omega arith)
 
   others : (j : ℕ) → j ≢ node → get_or (set waits node sent_entry) j 0 ≡ get_or waits j 0
   others j ne = get_or-set_other waits node j sent_entry 0 ne
 
   module _ (on : next ≢ node) where
     pub next_inside : next < length links
-    next_inside = omega (arith, is, s.streams.inside node inside)
+    next_inside = omega arith
 
     pub step_waits : 1 ≤ get_or waits next 0
     step_waits = next_waits s node inside ready next next_inside (leads_from links node (sym is) (λ e. on (cc)))
@@ -466,8 +434,8 @@ module _ {links weights waits totals : List ℕ} (s : IsSending links weights wa
         arith,
         ap (λ n. get_or (next_waits_list waits node next) n 0) e,
         get_or-set_same (set waits node sent_entry) next (get_or (set waits node sent_entry) next 0 - 1) 0
-            (omega (arith, length-set waits node sent_entry, s.waits_size, next_inside)),
-        others next on,
+            (omega (arith, length-set waits node sent_entry)),
+        others,
         ap (λ n. get_or waits n 0) e,
         step_waits,
         ap (λ b. cond {A = ℕ} b 1 0) (leads_test links node i is on),
@@ -477,7 +445,7 @@ module _ {links weights waits totals : List ℕ} (s : IsSending links weights wa
         arith,
         get_or-set_other (set waits node sent_entry) next i (get_or (set waits node sent_entry) next 0 - 1) 0
             (λ e. other (cc)),
-        others i ne,
+        others,
         ap (λ b. cond {A = ℕ} b 1 0) (leads_test links node i is on),
         cond-false {A = ℕ} _ 1 0 (ne_eqb next i other),
       )
@@ -489,10 +457,7 @@ module _ {links weights waits totals : List ℕ} (s : IsSending links weights wa
       totals_size = length-set totals next _;
       sent = get_or-set_other (set waits node sent_entry) next node _ 0 (λ e. on (cc)) ∙ sent;
       fewer = fewer;
-      more = λ i. cc (
-        added_at totals next (get_or totals node 0) i (omega (arith, s.totals_size, next_inside)),
-        leads_test links node i is on,
-      );
+      more = λ i. cc (added_at totals next (get_or totals node 0) i (omega arith), leads_test links node i is on);
     }
 
     pub step_sending : IsSending links weights (next_waits_list waits node next) (next_totals_list totals node next)
@@ -501,10 +466,8 @@ module _ {links weights waits totals : List ℕ} (s : IsSending links weights wa
     pub step_fits : get_or totals next 0 + get_or totals node 0 < 2 ^ 32
     step_fits = omega (
       arith,
-      get_or-set_same totals next (get_or totals next 0 + get_or totals node 0) 0
-          (omega (arith, s.totals_size, next_inside)),
+      get_or-set_same totals next (get_or totals next 0 + get_or totals node 0) 0 (omega arith),
       so_far_le step_sending next next_inside,
-      s.fits next next_inside,
     )
 
     pub step_falls : unsent (next_waits_list waits node next) (length links) < unsent waits (length links)
@@ -513,7 +476,7 @@ module _ {links weights waits totals : List ℕ} (s : IsSending links weights wa
     pub step_early : (from : ℕ) → ((i : ℕ) → i < from → i ≢ node → get_or waits i 0 ≢ 0) → (i : ℕ) → i < from →
         i ≢ next → get_or (next_waits_list waits node next) i 0 ≢ 0
     step_early from early i h ne = elim (cases_eq i node) [
-      | inl e ↦ λ z. omega (arith, z, ap (λ n. get_or (next_waits_list waits node next) n 0) e, moves.sent)
+      | inl e ↦ λ z. omega (arith, ap (λ n. get_or (next_waits_list waits node next) n 0) e, moves.sent)
       | inr other ↦ λ z. early i h other (cc (
         get_or-set_other (set waits node sent_entry) next i _ 0 ne,
         others i other,
@@ -526,7 +489,7 @@ module _ {links weights waits totals : List ℕ} (s : IsSending links weights wa
       waits_size = length-set waits node sent_entry;
       totals_size = refl;
       sent = sent;
-      fewer = λ i ne. omega (arith, others i ne, cond-false {A = ℕ} _ 1 0 (leads_end links i (sym is ∙ end)));
+      fewer = λ i ne. omega (arith, others, cond-false {A = ℕ} _ 1 0 (leads_end links i (sym is ∙ end)));
       more = λ i. omega (arith, cond-false _ (get_or totals node 0) 0 (leads_end links i (sym is ∙ end)));
     }
 
@@ -536,6 +499,6 @@ module _ {links weights waits totals : List ℕ} (s : IsSending links weights wa
     pub end_early : (from : ℕ) → ((i : ℕ) → i < from → i ≢ node → get_or waits i 0 ≢ 0) → (i : ℕ) → i < from →
         get_or (set waits node sent_entry) i 0 ≢ 0
     end_early from early i h = elim (cases_eq i node) [
-      | inl e ↦ λ z. omega (arith, z, ap (λ n. get_or (set waits node sent_entry) n 0) e, sent)
+      | inl e ↦ λ z. omega (arith, ap (λ n. get_or (set waits node sent_entry) n 0) e, sent)
       | inr other ↦ λ z. early i h other (cc (others i other))
     ]
