@@ -10,7 +10,7 @@ use Rattle.terrain.specs.declared.place.Place.{Place}
 use Rattle.tiles.specs.Cutting.{Cutting, IsInBounds, IsInTile, AreBounds, tile_count, cell_count, bounds_of, tile_entry, place_in, index_in}
 use Rattle.tiles.proofs.Cut.{in_bounds, bounds_inside}
 use Rattle.tiles.proofs.TileOrder.{index_in_below, index_in-place_in, place_in-index_in, tile_entry-in}
-use Rattle.drainage.specs.Following.{Directed, code_at}
+use Rattle.drainage.specs.Following.{Directed}
 use Rattle.flow.specs.Counts.{accumulation, IsValueAt}
 use Rattle.flow.specs.Streams.{AreStreams, AreSums, total}
 use Rattle.flow.specs.TileFlow.{Flow, IsTileExits, AreTileCounts}
@@ -20,7 +20,7 @@ use Rattle.flow.specs.Inflows.{Inflows, AreInflows, listed_inflow}
 use Rattle.flow.specs.RimGraph.{AreFlowsOf}
 use Rattle.flow.specs.Counting.{IsCounting, IsCountable, AreCountable, AreInflowWeights, AreCounts}
 use Rattle.flow.proofs.Coded.{IsCoded}
-use Rattle.flow.proofs.InTile.{weight_in, IsPiece, tile_streams, in_place}
+use Rattle.flow.proofs.InTile.{IsPiece, tile_streams, in_place}
 use Rattle.flow.proofs.Piece.{codes_from, AreLists, piece, few, weights_from, count_entry, match_data}
 use Rattle.flow.proofs.Reaching.{IsEnding, ending_of}
 use Rattle.flow.proofs.DrainedCells.{all_drained, drained_few, entered_few, inflow_sum, accumulation_is}
@@ -28,59 +28,46 @@ use Rattle.flow.proofs.TileTotals.{AreWeights, all_totals}
 use Rattle.flow.proofs.Totals.{total_is, totals_add}
 
 pub weights_size : (cells : List (Option ℕ)) → length (weights_by cells) ≡ length cells
-weights_size cells = length-map cells (λ (code : Option ℕ). cond {A = ℕ} (is_some code) 1 0)
+weights_size cells = length-map cells (λ code. cond (is_some code) 1 0)
 
 -- A map's flows, with counts, and the inflows found from them meet `IsCounting`.
-pub counting_of :
-    {t : Cutting} {codes : List (Option ℕ)} {flows joined : List Flow} (inflows : Inflows) →
+pub counting_of : {t : Cutting} {codes : List (Option ℕ)} {flows joined : List Flow} (inflows : Inflows) →
     IsGridFlow t.cols t.rows codes → AreFlowsOf (directed_on t codes) t flows →
-    AreTileCounts (directed_on t codes) t flows → joined ≡ flows →
-    ((d : Directed) → AreFlowsOf d t joined → AreTileCounts d t joined → AreInflows d t inflows) →
-    IsCounting t codes flows inflows
+    AreTileCounts (directed_on t codes) t flows → joined ≡ flows → ((d : Directed) → AreFlowsOf d t joined →
+    AreTileCounts d t joined → AreInflows d t inflows) → IsCounting t codes flows inflows
 counting_of {t} {codes} inflows grid are counts same entering = record {
   grid = grid;
   are_flows = are;
-  are_inflows = entering (directed_on t codes)
-      (rw same are)
-      (rw same counts);
+  are_inflows = entering (directed_on t codes) (rw same are) (rw same counts);
 }
 
 module _ {t : Cutting} {codes : List (Option ℕ)} {flows : List Flow} {inflows : Inflows}
     (s : IsCounting t codes flows inflows) where
   ending : IsEnding (directed_on t codes)
-  ending =
-      ending_of (directed_on t codes) s.grid.ends s.are_flows.cutting (refl, refl)
+  ending = ending_of _ s.grid.ends s.are_flows.cutting (refl, refl)
 
   module _ (tile : ℕ) (f : Flow) (there : slice_get flows tile ≡ Some f) where
     right : IsTileExits (directed_on t codes) t tile f
     right = s.are_flows.of_tiles.each tile f there
 
     below : tile < tile_count t
-    below = omega (arith, slice_get_within flows tile f there, s.are_flows.of_tiles.count)
+    below = omega (arith, slice_get_within)
 
     around : AreBounds t (bounds_of t tile)
     around = bounds_inside t tile s.are_flows.cutting below
 
     of_cells : AreTileCodes (directed_on t codes) (bounds_of t tile) f.codes
-    of_cells =
-        codes_from s.are_flows.cutting below right
+    of_cells = codes_from s.are_flows.cutting below right
 
-    within_tile : (p : Place) → IsInBounds (bounds_of t tile) p → (p.row < t.rows)
-        × (p.col < t.cols)
-    within_tile p h = (omega (arith, h, around.rows_inside), omega (arith, h, around.cols_inside))
+    within_tile : (p : Place) → IsInBounds (bounds_of t tile) p → (p.row < t.rows) × (p.col < t.cols)
+    within_tile p h = (omega arith)
 
-    pub inflow_few : (p : Place) → IsInBounds (bounds_of t tile) p →
-        listed_inflow inflows p ≤ 16777216
-    inflow_few p h = omega (
-      arith,
-      s.are_inflows.each p (within_tile p h),
-      inflow_sum (directed_on t codes) t p,
-      entered_few ending t p,
-    )
+    pub inflow_few : (p : Place) → IsInBounds (bounds_of t tile) p → listed_inflow inflows p ≤ 16777216
+    inflow_few p h = omega (arith, s.are_inflows.each p (within_tile p h), inflow_sum, entered_few ending t p)
 
     module _ {links : List ℕ} (made : links ≡ links_by (bounds_of t tile) f.codes) where
-      lists : AreLists (record { cutting = t; tile = tile; cells = codes })
-          (bounds_of t tile) f.codes links (weights_by f.codes)
+      lists : AreLists (record { cutting = t; tile = tile; cells = codes }) (bounds_of t tile) f.codes links
+          (weights_by f.codes)
       lists = record {
         ends = s.grid.ends;
         bounds = refl;
@@ -95,128 +82,81 @@ module _ {t : Cutting} {codes : List (Option ℕ)} {flows : List Flow} {inflows 
       piece_of = piece lists
 
       pub streams_of : AreStreams links
-      streams_of =
-          tile_streams piece_of
+      streams_of = tile_streams piece_of
 
       pub same_sizes : length links ≡ length f.codes
       same_sizes = piece_of.made.size ∙ sym of_cells.size
 
-      module _ {weights : List ℕ}
-          (weighed : AreInflowWeights inflows (bounds_of t tile) weights) where
+      module _ {weights : List ℕ} (weighed : AreInflowWeights inflows (bounds_of t tile) weights) where
         abbrev both : List ℕ
-        both = map (λ i. get_or (weights_by f.codes) i 0 + get_or weights i 0)
-            (range_with_len 0 (length links))
+        both = map (λ i. get_or (weights_by f.codes) i 0 + get_or weights i 0) (range_with_len 0 (length links))
 
-        both_at : (i : ℕ) → i < length links →
-            get_or both i 0 ≡ get_or (weights_by f.codes) i 0 + get_or weights i 0
-        both_at i h = get_or-map-range_with_len (λ i. get_or (weights_by f.codes) i 0 + get_or weights i 0) 0
-            (length links) i i 0 h (omega arith)
+        both_at : (i : ℕ) → i < length links → get_or both i 0 ≡ get_or (weights_by f.codes) i 0 + get_or weights i 0
+        both_at i h = get_or-map-range_with_len (λ i. get_or (weights_by f.codes) i 0 + get_or weights i 0) 0 _ i i 0 h
+            (omega arith)
 
         weights_are : AreWeights ending piece_of both
         weights_are j h =
             let inside = in_place piece_of j h in
             let index = index_in-place_in (bounds_of t tile) j in
-            let own : get_or (weights_by f.codes) j 0
-            ≡ weight_in (directed_on t codes) (bounds_of t tile) j =
-            (weights_from of_cells).each j (omega (arith, h, piece_of.made.size)) in
-            omega (
-              arith,
-              both_at j h,
-              weighed.each (place_in (bounds_of t tile) j) inside,
-              ap (λ n. get_or weights n 0) index,
-              own,
-              s.are_inflows.each (place_in (bounds_of t tile) j)
-                  (within_tile (place_in (bounds_of t tile) j) inside),
-            )
+            let own = (weights_from of_cells).each j (omega (arith, piece_of.made.size)) in
+            omega (arith, both_at, ap (λ n. get_or weights n 0) index, s.are_inflows.each _ (within_tile _ inside))
 
-        total_drained : (i : ℕ) → i < length links →
-            total links (weights_by f.codes) i + total links weights i
-            ≡ all_drained (directed_on t codes) (place_in (bounds_of t tile) i)
+        total_drained : (i : ℕ) → i < length links → total links (weights_by f.codes) i + total links weights i ≡
+            all_drained (directed_on t codes) (place_in (bounds_of t tile) i)
         total_drained i h = omega (
           arith,
-          totals_add links (weights_by f.codes) weights both streams_of both_at i h,
+          totals_add links _ weights both streams_of both_at i h,
           total_is streams_of (all_totals ending piece_of both weights_are) i h,
         )
 
-        count_is : {totals added : List ℕ} → AreSums links (weights_by f.codes) totals →
-            AreSums links weights added → {p : Place} → IsInBounds (bounds_of t tile) p →
-            IsCoded (directed_on t codes) p →
-            get_or totals (index_in (bounds_of t tile) p) 0
-            + get_or added (index_in (bounds_of t tile) p) 0 - 1
-            ≡ accumulation (directed_on t codes) p
+        count_is : {totals added : List ℕ} → AreSums links (weights_by f.codes) totals → AreSums links weights added →
+            {p : Place} → IsInBounds (bounds_of t tile) p → IsCoded (directed_on t codes) p →
+            get_or totals (index_in (bounds_of t tile) p) 0 + get_or added (index_in (bounds_of t tile) p) 0 - 1 ≡
+            accumulation (directed_on t codes) p
         count_is counted summed {p = p} h is =
-            let at = place_in-index_in (bounds_of t tile) p h in
+            let at = place_in-index_in _ p h in
             let there : index_in (bounds_of t tile) p < length links =
-            omega (arith, index_in_below (bounds_of t tile) p h, of_cells.size, same_sizes) in
-            omega (
-              arith,
-              counted.each (index_in (bounds_of t tile) p) there,
-              summed.each (index_in (bounds_of t tile) p) there,
-              total_drained (index_in (bounds_of t tile) p) there,
-              ap (all_drained (directed_on t codes)) at,
-              accumulation_is ending p is,
-            )
+            omega (arith, index_in_below _ p h, of_cells.size, same_sizes) in
+            omega (arith, total_drained, ap (all_drained (directed_on t codes)) at, accumulation_is ending p is)
 
     countable : IsCountable inflows tile f
     countable =
-        let made : links_by f.bounds f.codes ≡ links_by (bounds_of t tile) f.codes =
-        ap (λ b. links_by b f.codes) right.bounds in
+        let made = ap (λ b. links_by b f.codes) right.bounds in
         record {
-          bounds = right.bounds
-              ∙ ap (λ x. bounds_of x tile) (sym s.are_inflows.cutting);
-          size = of_cells.size
-              ∙ ap (λ x. cell_count x tile) (sym s.are_inflows.cutting);
+          bounds = right.bounds ∙ ap (λ x. bounds_of x tile) (sym s.are_inflows.cutting);
+          size = of_cells.size ∙ ap (λ x. cell_count x tile) (sym s.are_inflows.cutting);
           linked = same_sizes made;
-          few = omega (
-            arith,
-            few (lists made),
-            same_sizes made,
-          );
+          few = omega (arith, few (lists made), same_sizes made);
           streams = streams_of made;
-          few_enter = λ p h. omega (
-            arith,
-            inflow_few p
-                (rw s.are_inflows.cutting at h),
-          );
+          few_enter = λ p h. omega (arith, inflow_few p (rw s.are_inflows.cutting at h));
           totals_fit = λ weights weighed i h. omega (
             arith,
-            total_drained made
-                (subst (λ x. AreInflowWeights inflows (bounds_of x tile) weights)
-                s.are_inflows.cutting weighed) i
-                (omega (arith, h, same_sizes made)),
+            total_drained made (subst (λ x. AreInflowWeights inflows (bounds_of x tile) weights) s.are_inflows.cutting
+                weighed) i (omega (arith, same_sizes made)),
             drained_few ending (place_in (bounds_of t tile) i),
           );
         }
 
     -- The count at each place of the tile is its accumulation, `None` at NODATA.
-    pub entry_counted : {values : List (Option ℕ)} → AreCounts inflows tile f values → (p : Place) →
-        IsInTile t tile p →
-        IsValueAt (directed_on t codes)
-        (accumulation (directed_on t codes)) p (tile_entry t tile values p)
+    pub entry_counted : {values : List (Option ℕ)} → AreCounts inflows tile f values → (p : Place) → IsInTile t tile p →
+        IsValueAt (directed_on t codes) (accumulation (directed_on t codes)) p (tile_entry t tile values p)
     entry_counted {values} are p i =
         let h = in_bounds t tile p s.are_flows.cutting i in
-        let made : links_by f.bounds f.codes ≡ links_by (bounds_of t tile) f.codes =
-        ap (λ b. links_by b f.codes) right.bounds in
-        let weighed = subst (λ x. AreInflowWeights inflows (bounds_of x tile) are.weights)
-        s.are_inflows.cutting are.weighed in
+        let made = ap (λ b. links_by b f.codes) right.bounds in
+        let weighed = subst (λ x. AreInflowWeights inflows (bounds_of x tile) are.weights) s.are_inflows.cutting
+        are.weighed in
         let links = links_by f.bounds f.codes in
-        match_data (code_at (directed_on t codes) p) _ _
-        (tile_entry-in t tile values p i
-        ∙ ap (λ l. get_or l (index_in (bounds_of t tile) p) None) are.made
-        ∙ count_entry (lists made)
-        (λ i. slice_index are.totals i + slice_index are.added i) p h)
-        (λ code is. count_is made weighed are.counted
-        are.summed h (record { code = code; is = is }))
+        match_data _ _ _ (cc (
+          tile_entry-in t tile values p i,
+          count_entry (lists made) (λ i. slice_index are.totals i + slice_index are.added i) p h,
+        )) (λ code is. count_is made weighed are.counted are.summed h (record { code = code; is = is }))
 
   pub countable_all : AreCountable t flows inflows
-  countable_all = record {
-    same_cutting = s.are_inflows.cutting;
-    count = s.are_flows.of_tiles.count;
-    each = countable;
-  }
+  countable_all = record { same_cutting = s.are_inflows.cutting; count = s.are_flows.of_tiles.count; each = countable }
 
 pub counts_size : {inflows : Inflows} {tile : ℕ} {f : Flow} {values : List (Option ℕ)} →
     AreCounts inflows tile f values → length values ≡ length f.codes
 counts_size {f = f} are =
     ap length are.made ∙ length-map-range_with_len (λ i. where_data (get_or f.codes i None)
-    (get_or are.totals i 0 + get_or are.added i 0 - 1)) 0 (length f.codes)
+    (get_or are.totals i 0 + get_or are.added i 0 - 1)) 0 _

@@ -30,111 +30,95 @@ module _ (f : Place → ℕ) (cols rows : ℕ) where
   abbrev at : ℕ → ℕ
   at i = f (place_in (whole_bounds cols rows) i)
 
-  row_sum : (r n : ℕ) → n ≤ cols → sum_by f (map (λ (c : ℕ). make_place r c) (range_with_len 0 n))
-      ≡ sum_below (λ c. at (r * cols + c)) n
+  row_sum : (r n : ℕ) → n ≤ cols → sum_by f (map (λ (c : ℕ). make_place r c) (range_with_len 0 n)) ≡ sum_below
+      (λ c. at (r * cols + c)) n
   row_sum r zero le = refl
   row_sum r (suc n) le =
-      let here : make_place r n ≡ place_in (whole_bounds cols rows) (r * cols + n) =
-      same_place (make_place r n) (place_in (whole_bounds cols rows) (r * cols + n))
-      (omega (arith, div-mul-add r cols n (omega arith)))
-      (omega (arith, mod-mul-add r cols n (omega arith))) in
-      ap (λ (k : ℕ). sum_by f (map (λ (c : ℕ). make_place r c) (range_with_len 0 k)))
-      (sym (add-one n))
-      ∙ sum_by-map-range_with_len_more f (λ (c : ℕ). make_place r c) 0 n n (omega arith)
-      ∙ omega (arith, row_sum r n (omega arith), ap f here)
+      let here =
+      same_place (make_place r n) (place_in (whole_bounds cols rows) (r * cols + n)) (omega (arith, div-mul-add))
+      (omega (arith, mod-mul-add)) in
+      ap (λ k. sum_by f (map (λ c. make_place r c) (range_with_len 0 k))) (sym (add-one n)) ∙
+      sum_by-map-range_with_len_more f (λ c. make_place r c) 0 n n (omega arith) ∙
+      omega (arith, row_sum r n (omega arith), ap f here)
 
-  rows_sum : (a n : ℕ) → sum_by f (flat_map (λ (r : ℕ). map (λ (c : ℕ). make_place r c)
-      (range_with_len 0 cols)) (range_with_len a n)) ≡ sum_below (λ i. at (a * cols + i)) (n * cols)
-  rows_sum a zero = sym (ap (sum_below (λ i. at (a * cols + i))) (zero-mul cols))
+  rows_sum : (a n : ℕ) → sum_by f (flat_map (λ (r : ℕ). map (λ (c : ℕ). make_place r c) (range_with_len 0 cols))
+      (range_with_len a n)) ≡ sum_below (λ i. at (a * cols + i)) (n * cols)
+  rows_sum a zero = cc (zero-mul cols)
   rows_sum a (suc n) =
       let size : suc n * cols ≡ cols + n * cols = grind arith in
       let on : (i : ℕ) → a * cols + (cols + i) ≡ (a + 1) * cols + i = λ i. omega arith in
-      sum_by-append f (map (λ (c : ℕ). make_place a c) (range_with_len 0 cols))
-      (flat_map (λ (r : ℕ). map (λ (c : ℕ). make_place r c) (range_with_len 0 cols))
-      (range_with_len (a + 1) n))
-      ∙ omega (
+      sum_by-append f (map (λ c. make_place a c) (range_with_len 0 cols)) _ ∙ omega (
         arith,
         row_sum a cols (omega arith),
         rows_sum (a + 1) n,
         ap (sum_below (λ i. at (a * cols + i))) size,
         sum_below-split (λ i. at (a * cols + i)) cols (n * cols),
-        sum_below-same (λ i. at (a * cols + (cols + i))) (λ i. at ((a + 1) * cols + i)) (n * cols)
-            (λ i _. ap (λ k. at k) (on i)),
+        sum_below-same (λ i. at (a * cols + (cols + i))) (λ i. at ((a + 1) * cols + i)) (n * cols) (λ i _. cc (on i)),
       )
 
   pub sum_of_cells : sum_by f (places cols rows) ≡ sum_below (λ i. at i) (rows * cols)
   sum_of_cells =
       let on : (i : ℕ) → 0 * cols + i ≡ i = λ i. omega arith in
-      rows_sum 0 rows ∙ sum_below-same (λ i. at (0 * cols + i)) (λ i. at i) (rows * cols) (λ i _.
-      ap (λ k. at k) (on i))
+      rows_sum 0 rows ∙ sum_below-same (λ i. at (0 * cols + i)) (λ i. at i) _ (λ i _. cc (on i))
 
 number_at : (n k d : ℕ) → k < n → get_or (range_with_len 0 n) k d ≡ k
-number_at n k d h = omega (arith, get_or-range_with_len 0 n k d h)
+number_at n k d h = omega (arith, get_or-range_with_len)
 
-pub some_in_range : (f : ℕ → Bool) (n : ℕ) → list_any f (range_with_len 0 n) ≡ true →
-    (k : ℕ) × (k < n) × (f k ≡ true)
+pub some_in_range : (f : ℕ → Bool) (n : ℕ) → list_any f (range_with_len 0 n) ≡ true → (k : ℕ) × (k < n) × (f k ≡ true)
 some_in_range f n h =
-    let r = Any-from_list_any f (range_with_len 0 n) h in
-    let below : r.0 < n = omega (arith, r.2, length-range_with_len 0 n) in
-    (r.0, below, ap f (sym (number_at n r.0 r.1 below) ∙ r.3) ∙ r.4)
+    let r = Any-from_list_any f _ h in
+    let below : r.0 < n = omega (arith, length-range_with_len) in
+    (r.0, below, cc (number_at n r.0 r.1 below))
 
-pub any_in_range : (f : ℕ → Bool) (n k : ℕ) → k < n → f k ≡ true →
-    list_any f (range_with_len 0 n) ≡ true
-any_in_range f n k h t = list_any_at f (range_with_len 0 n) k 0
-    (omega (arith, h, length-range_with_len 0 n)) (ap f (number_at n k 0 h) ∙ t)
+pub any_in_range : (f : ℕ → Bool) (n k : ℕ) → k < n → f k ≡ true → list_any f (range_with_len 0 n) ≡ true
+any_in_range f n k h t = list_any_at f _ k 0 (omega (arith, length-range_with_len)) (cc (number_at n k 0 h))
 
-pub every_in_range : (f : ℕ → Bool) (n : ℕ) → list_all f (range_with_len 0 n) ≡ true → (k : ℕ) →
-    k < n → f k ≡ true
-every_in_range f n h k l = ap f (sym (number_at n k 0 l)) ∙ AllPass-from_list_all f
-    (range_with_len 0 n) h k 0 (omega (arith, l, length-range_with_len 0 n))
+pub every_in_range : (f : ℕ → Bool) (n : ℕ) → list_all f (range_with_len 0 n) ≡ true → (k : ℕ) → k < n → f k ≡ true
+every_in_range f n h k l = ap f (sym (number_at n k 0 l)) ∙
+    AllPass-from_list_all f _ h k 0 (omega (arith, length-range_with_len))
 
-pub all_in_range : (f : ℕ → Bool) (n : ℕ) → ((k : ℕ) → k < n → f k ≡ true) →
-    list_all f (range_with_len 0 n) ≡ true
-all_in_range f n h = list_all-from_AllPass f (range_with_len 0 n)
-    (λ k d below. (let l : k < n = omega (arith, below, length-range_with_len 0 n) in
-    ap f (number_at n k d l) ∙ h k l))
+pub all_in_range : (f : ℕ → Bool) (n : ℕ) → ((k : ℕ) → k < n → f k ≡ true) → list_all f (range_with_len 0 n) ≡ true
+all_in_range f n h = list_all-from_AllPass f _ (λ k d below. (let l : k < n = omega (arith, length-range_with_len) in
+    cc (number_at n k d l, h k l)))
 
 -- The values of f at 0 to n are those at the numbers below n, with f n appended.
-pub mapped_next : {X : Type 0} (f : ℕ → X) (n : ℕ) →
-    map f (range_with_len 0 (n + 1)) ≡ map f (range_with_len 0 n) ++ f n ∷ []
+pub mapped_next : {X : Type 0} (f : ℕ → X) (n : ℕ) → map f (range_with_len 0 (n + 1)) ≡ map f (range_with_len 0 n) ++
+    f n ∷ []
 mapped_next f n = map-range_with_len_more f 0 n n (omega arith)
 
-pub mapped_pushed : {X : Type 0} (f : ℕ → X) (n : ℕ) {xs ys : List X} {x : X} → xs ≡ map f
-    (range_with_len 0 n) → x ≡ f n → ys ≡ xs ++ x ∷ [] → ys ≡ map f (range_with_len 0 (n + 1))
-mapped_pushed f n {x = x} made here pushed = pushed ∙ ap (λ l. l ++ x ∷ []) made
-    ∙ ap (λ y. map f (range_with_len 0 n) ++ y ∷ []) here ∙ sym (mapped_next f n)
+pub mapped_pushed : {X : Type 0} (f : ℕ → X) (n : ℕ) {xs ys : List X} {x : X} → xs ≡ map f (range_with_len 0 n) →
+    x ≡ f n → ys ≡ xs ++ x ∷ [] → ys ≡ map f (range_with_len 0 (n + 1))
+mapped_pushed f n {x = x} made here pushed = cc (pushed, mapped_next f n)
 
 -- Each of the first k entries of xs is the value of f at its index.
 pub record AreSet {X : Type 0} (f : ℕ → X) (n k : ℕ) (xs : List X) : Type 0 where
   pub size : length xs ≡ n
   pub each : (i : ℕ) (d : X) → i < k → get_or xs i d ≡ f i
 
-pub set_next : {X : Type 0} (f : ℕ → X) {n k : ℕ} {xs : List X} {x : X} → k < n → AreSet f n k xs →
-    x ≡ f k → AreSet f n (k + 1) (set xs k x)
+pub set_next : {X : Type 0} (f : ℕ → X) {n k : ℕ} {xs : List X} {x : X} → k < n → AreSet f n k xs → x ≡ f k →
+    AreSet f n (k + 1) (set xs k x)
 set_next f {k = k} {xs = xs} {x = x} below so_far here = record {
-  size = length-set xs k x ∙ so_far.size;
+  size = cc (length-set xs k x);
   each = λ i d early. elim (cases_eq i k) [
-    | inl same ↦ rw same (get_or-set_same xs k x d (omega (arith, below, so_far.size)) ∙ here)
-    | inr other ↦ get_or-set_other xs k i x d other ∙ so_far.each i d (omega (arith, early, other))
+    | inl same ↦ rw same (get_or-set_same xs k x d (omega arith) ∙ here)
+    | inr other ↦ get_or-set_other xs k i x d other ∙ so_far.each i d (omega arith)
   ];
 }
 
 pub set_all : {X : Type 0} (f : ℕ → X) {n k : ℕ} {xs : List X} → n ≤ k → AreSet f n k xs →
     xs ≡ map f (range_with_len 0 n)
-set_all f {n} {xs = xs} all s = same_lists _ _ (s.size ∙ sym (length-map-range_with_len f 0 n))
-    (λ i d h. s.each i d (omega (arith, h, all, s.size))
-    ∙ sym (get_or-map-range_with_len f 0 n i i d (omega (arith, h, s.size)) (omega arith)))
+set_all f {n} {xs = xs} all s = same_lists _ _ (cc (length-map-range_with_len f 0 n))
+    (λ i d h. s.each i d (omega arith) ∙ sym (get_or-map-range_with_len f 0 n i i d (omega arith) (omega arith)))
 
-pub mapped_all : {X : Type 0} (f : ℕ → X) {n m : ℕ} {xs : List X} →
-    xs ≡ map f (range_with_len 0 n) → n ≡ m → xs ≡ map f (range_with_len 0 m)
-mapped_all f made all = made ∙ ap (λ k. map f (range_with_len 0 k)) all
+pub mapped_all : {X : Type 0} (f : ℕ → X) {n m : ℕ} {xs : List X} → xs ≡ map f (range_with_len 0 n) → n ≡ m →
+    xs ≡ map f (range_with_len 0 m)
+mapped_all f made all = cc
 
 -- If P holds of the n entries of xs, and of x at n, it holds of those of xs with x appended.
 pub each_pushed : (P : ℕ → ℕ → Type 0) {n : ℕ} (xs : List ℕ) {ys : List ℕ} (x : ℕ) → length xs ≡ n →
-    ((k : ℕ) → k < length xs → P k (get_or xs k 0)) → P n x → ys ≡ xs ++ x ∷ [] → (k : ℕ) →
-    k < length ys → P k (get_or ys k 0)
+    ((k : ℕ) → k < length xs → P k (get_or xs k 0)) → P n x → ys ≡ xs ++ x ∷ [] → (k : ℕ) → k < length ys →
+    P k (get_or ys k 0)
 each_pushed P {n} xs x size each here pushed k h =
     rw pushed (below_more (λ i. P i (get_or (xs ++ x ∷ []) i 0)) n
-    (λ i below. rw (get_or_append_left xs (x ∷ []) 0 i (omega (arith, below, size)))
-    (each i (omega (arith, below, size)))) (rw (get_or_push xs x 0 n size) here) k
-    (omega (arith, h, ap length pushed, length-append xs (x ∷ []), size)))
+    (λ i below. rw (get_or_append_left xs _ 0 i (omega arith)) (each i (omega arith))) (rw get_or_push here) k
+    (omega (arith, ap length pushed, length-append xs (x ∷ []))))

@@ -1,4 +1,4 @@
-use Rattle.std.proofs.Common.{◌∙◌, arith, ap, subst, ◌*◌, ◌≤◌, ℕ, Option, Vec, Global, length}
+use Rattle.std.proofs.Common.{◌∙◌, arith, ap, subst, length}
 use Rattle.std.proofs.Math.Nat.{mul-le-mul}
 use Rattle.std.proofs.lemmas.Result.{IfOk-weaker}
 use Rattle.drainage.specs.Drained.{directed_of}
@@ -13,17 +13,14 @@ use Rattle.flow.proofs.basin.basins.Goals as goal
 
 pub exit_tiles-requires-clause-grid : goal.exit_tiles-requires-clause-grid
 exit_tiles-requires-clause-grid g c κs within =
-    grid_flow c.args.tiling.now c.codes-codes.ensures.draining
-    c.requires c.codes-codes.ensures.value
+    grid_flow c.args.tiling.now c.codes-codes.ensures.draining c.requires c.codes-codes.ensures.value
 
 pub of_codes-requires : goal.of_codes-requires
 of_codes-requires g c =
     let t = c.args.tiling.now in
-    let most : t.cols * t.rows ≤ 4096 * 4096 =
-    mul-le-mul c.cols.ensures.lawful.few_cols c.cols.ensures.lawful.few_rows in
-    let flow = grid_flow t c.codes-codes.ensures.draining
-    c.requires c.codes-codes.ensures.value in
-    omega (arith, most, flow.size)
+    let most = mul-le-mul c.cols.ensures.lawful.few_cols c.cols.ensures.lawful.few_rows in
+    let flow = grid_flow t c.codes-codes.ensures.draining c.requires c.codes-codes.ensures.value in
+    omega arith
 
 pub number_cells-requires-clause-flows : goal.number_cells-requires-clause-flows
 number_cells-requires-clause-flows g c κs within =
@@ -31,31 +28,24 @@ number_cells-requires-clause-flows g c κs within =
 
 pub number_cells-requires-clause-size : goal.number_cells-requires-clause-size
 number_cells-requires-clause-size g c κs within =
-    ap length c.in_ok-numbers.ensures
-    ∙ (grid_flow c.args.tiling.now
-    c.codes-codes.ensures.draining c.requires c.codes-codes.ensures.value).size
+    ap length c.in_ok-numbers.ensures ∙
+    (grid_flow c.args.tiling.now c.codes-codes.ensures.draining c.requires c.codes-codes.ensures.value).size
 
 pub number_cells-requires-clause-few : goal.number_cells-requires-clause-few
 number_cells-requires-clause-few g c κs within i below =
     let t = c.args.tiling.now in
-    let most : t.cols * t.rows ≤ 4096 * 4096 =
-    mul-le-mul c.cols.ensures.lawful.few_cols c.cols.ensures.lawful.few_rows in
-    let flow = grid_flow t c.codes-codes.ensures.draining
-    c.requires c.codes-codes.ensures.value in
-    outlet_number_few c.in_ok-numbers.numbers
-    (omega (arith, most, flow.size, ap length c.in_ok-numbers.ensures)) i
+    let most = mul-le-mul c.cols.ensures.lawful.few_cols c.cols.ensures.lawful.few_rows in
+    let flow = grid_flow t c.codes-codes.ensures.draining c.requires c.codes-codes.ensures.value in
+    outlet_number_few _ (omega (arith, ap length c.in_ok-numbers.ensures)) i
 
 pub returns-clause-values : goal.returns-clause-values
 returns-clause-values g c =
     let t = c.args.tiling.now in
     let codes = c.codes-codes.result.now in
     let d = directed_on t codes in
-    IfOk-weaker c.number_cells.result (λ (v : Vec (Option ℕ) Global).
-    (d : Directed) → AreFlowsOf d t c.in_ok-flows.flows.items →
+    IfOk-weaker _ (λ v. (d : Directed) → AreFlowsOf d t c.in_ok-flows.flows.items →
     IsMapOf d (end_number d (outlet_numbers c.in_ok-numbers.numbers)) v.items)
-    (λ (v : Vec (Option ℕ) Global). AreBasins (directed_of c.args.d.now) v.items)
-    (λ v made. subst (λ x. AreBasins x v.items)
-    (directed_same c.args.d.now t c.requires c.codes-codes.ensures.value)
-    (subst (λ l. IsMapOf d (end_number d (outlet_numbers l)) v.items)
-    c.in_ok-numbers.ensures (made d c.in_ok-flows.ensures.flows)))
-    c.number_cells.ensures.values
+    (λ v. AreBasins (directed_of c.args.d.now) v.items)
+    (λ v made. rw (← directed_same c.args.d.now t c.requires c.codes-codes.ensures.value)
+    (subst (λ l. IsMapOf d (end_number d (outlet_numbers l)) v.items) c.in_ok-numbers.ensures
+    (made d c.in_ok-flows.ensures.flows))) c.number_cells.ensures.values

@@ -5,9 +5,7 @@ pub path-preserved : goal.path-preserved
 path-preserved g c = next_on_path c.requires.streams _ _ c.next-next.ensures c.path.invariant
 
 pub path-smaller : goal.path-smaller
-path-smaller g c =
-    moves_less c.requires.streams c.path.node c.next-next.ensures c.if-next-node.false c.path.invariant.0
+path-smaller g c = moves_less c.requires.streams _ c.next-next.ensures c.if-next-node.false c.path.invariant.0
 
 pub returns-then-next-node : goal.returns-then-next-node
-returns-then-next-node g c = ends_here (g.L.Links.list c.args.links.now) c.args.from c.next-next.ensures
-    c.if-next-node.true c.path.invariant
+returns-then-next-node g c = ends_here _ _ c.next-next.ensures c.if-next-node.true c.path.invariant

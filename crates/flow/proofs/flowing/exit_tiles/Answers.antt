@@ -1,6 +1,4 @@
 use Rattle.std.proofs.Common.{refl}
-use Rattle.flow.specs.TileFlow.{IsTileExits}
-use Rattle.flow.specs.RimGraph.{AreFlowsOf}
 use Rattle.flow.specs.Whole.{directed_on}
 use Rattle.flow.proofs.Together.{jobs_gave}
 use Rattle.flow.proofs.flowing.exit_tiles.Goals as goal
@@ -9,8 +7,7 @@ pub returns-clause-flows : goal.returns-clause-flows
 returns-clause-flows g c =
     let t = c.args.tiling.now in
     let d = directed_on t c.args.codes.now in
-    jobs_gave (IsTileExits d t) c.run.result (AreFlowsOf d t) c.tiles.ensures.value
-    (λ outs count each. record {
+    jobs_gave _ _ _ c.tiles.ensures.value (λ outs count each. record {
       cutting = c.tiles.ensures.lawful;
       ends = c.requires.grid.ends;
       of_tiles = record { size = (refl, refl); count = count; each = each };

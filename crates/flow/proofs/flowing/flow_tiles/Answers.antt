@@ -1,6 +1,5 @@
 use Rattle.std.proofs.Common.{refl}
-use Rattle.flow.specs.TileFlow.{IsTileFlow, AreTileCounts}
-use Rattle.flow.specs.RimGraph.{AreFlowsOf}
+use Rattle.flow.specs.TileFlow.{IsTileFlow}
 use Rattle.flow.specs.Whole.{directed_on}
 use Rattle.flow.proofs.Together.{jobs_gave}
 use Rattle.flow.proofs.flowing.flow_tiles.Goals as goal
@@ -9,8 +8,7 @@ pub returns-clause-flows : goal.returns-clause-flows
 returns-clause-flows g c =
     let t = c.args.tiling.now in
     let d = directed_on t c.args.codes.now in
-    jobs_gave (IsTileFlow d t) c.run.result (AreFlowsOf d t) c.tiles.ensures.value
-    (λ outs count each. record {
+    jobs_gave (IsTileFlow d t) _ _ c.tiles.ensures.value (λ outs count each. record {
       cutting = c.tiles.ensures.lawful;
       ends = c.requires.grid.ends;
       of_tiles = record { size = (refl, refl); count = count; each = λ k x there. (each k x there).exits };
@@ -20,5 +18,5 @@ pub returns-clause-counts : goal.returns-clause-counts
 returns-clause-counts g c =
     let t = c.args.tiling.now in
     let d = directed_on t c.args.codes.now in
-    jobs_gave (IsTileFlow d t) c.run.result (AreTileCounts d t) c.tiles.ensures.value
+    jobs_gave (IsTileFlow d t) _ _ c.tiles.ensures.value
     (λ outs count each. record { each = λ k x there. (each k x there).counts }) c.run.ensures.len c.run.ensures.given

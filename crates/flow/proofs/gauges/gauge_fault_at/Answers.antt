@@ -9,24 +9,18 @@ pub returns-then-is_none : goal.returns-then-is_none
 returns-then-is_none c =
     let d = c.args.d.now in
     let p = c.args.gauge in
-    let row : p.row < d.terrain.rows =
-    omega (arith, c.if-gauge-rows.false, c.rows.ensures.value, c.requires.1) in
-    let col : p.col < d.terrain.cols =
-    omega (arith, c.if-gauge-cols.false, c.cols.ensures.value, c.requires.0) in
-    sym (ap (option_map fault_of_gauge) (fault_inside d.terrain c.args.index p row col
-    ∙ ap (λ b. if b then Some (OnNodata c.args.index) else None) (none_of_code
-    c.code.ensures.draining p c.is_none.result c.code.ensures.value c.is_none.ensures
-    ∙ c.if-is_none.true)))
+    let row : p.row < d.terrain.rows = omega arith in
+    let col : p.col < d.terrain.cols = omega arith in
+    sym (ap (option_map fault_of_gauge) (fault_inside d.terrain _ p row col ∙
+    ap (λ b. if b then Some (OnNodata c.args.index) else None) (none_of_code c.code.ensures.draining p _
+    c.code.ensures.value c.is_none.ensures ∙ c.if-is_none.true)))
 
 pub returns : goal.returns
 returns c =
     let d = c.args.d.now in
     let p = c.args.gauge in
-    let row : p.row < d.terrain.rows =
-    omega (arith, c.if-gauge-rows.false, c.rows.ensures.value, c.requires.1) in
-    let col : p.col < d.terrain.cols =
-    omega (arith, c.if-gauge-cols.false, c.cols.ensures.value, c.requires.0) in
-    sym (ap (option_map fault_of_gauge) (fault_inside d.terrain c.args.index p row col
-    ∙ ap (λ b. if b then Some (OnNodata c.args.index) else None) (none_of_code
-    c.code.ensures.draining p c.is_none.result c.code.ensures.value c.is_none.ensures
-    ∙ c.if-is_none.false)))
+    let row : p.row < d.terrain.rows = omega arith in
+    let col : p.col < d.terrain.cols = omega arith in
+    sym (ap (option_map fault_of_gauge) (fault_inside d.terrain _ p row col ∙
+    ap (λ b. if b then Some (OnNodata c.args.index) else None) (none_of_code c.code.ensures.draining p _
+    c.code.ensures.value c.is_none.ensures ∙ c.if-is_none.false)))

@@ -1,46 +1,26 @@
-use Rattle.std.proofs.Common.{◌+◌, get_or, ap, ◌∙◌, arith}
+use Rattle.std.proofs.Common.{ap, ◌∙◌, arith}
 use Rattle.flow.specs.RimGraph.{side_cell}
 use Rattle.flow.proofs.Piece.{bounds_end_in_grid}
 use Rattle.flow.proofs.RimAdded.{adds_fit, adds_more, adds_done}
 use Rattle.flow.proofs.inflows.add_all.Goals as goal
 
 pub add_at-requires-clause-small : goal.add_at-requires-clause-small
-add_at-requires-clause-small c = bounds_end_in_grid
-    c.bounds-bounds.ensures.lawful c.bounds-bounds.ensures.inside
+add_at-requires-clause-small c = bounds_end_in_grid c.bounds-bounds.ensures.lawful c.bounds-bounds.ensures.inside
 
 pub add_at-requires-clause-fits : goal.add_at-requires-clause-fits
 add_at-requires-clause-fits c =
-    adds_fit c.bounds-bounds.ensures.lawful c.args.listed.now c.args.tile
-    c.requires.tile c.args.weights.now c.bounds-bounds.ensures.value c.loop-side.weights c.loop-side.side
-    (c.side_cell.ensures.value ∙ ap (λ l.
-    side_cell l c.bounds-bounds.result c.loop-side.side) c.bounds-largest.ensures.value)
-    (ap (λ n. get_or c.args.listed.now (n + c.loop-side.side) 0)
-    c.rim_numbers_of-first.ensures.first)
-    (omega
-    (arith, c.loop-side-test.true, c.loop-side.auto.side-end, c.rim_numbers_of-first.ensures.count))
-    c.loop-side.invariant.each c.requires.fits
+    adds_fit c.bounds-bounds.ensures.lawful _ _ c.requires.tile _ c.bounds-bounds.ensures.value _ _
+    (c.side_cell.ensures.value ∙ ap (λ l. side_cell l c.bounds-bounds.result c.loop-side.side)
+    c.bounds-largest.ensures.value) (cc) (omega arith) c.loop-side.invariant.each c.requires.fits
 
 pub loop-side-preserved : goal.loop-side-preserved
 loop-side-preserved c = record {
-  size = c.add_at.ensures.size ∙ c.loop-side.invariant.size;
-  each = adds_more c.bounds-bounds.ensures.lawful c.args.listed.now c.args.tile
-      c.requires.tile c.args.weights.now c.bounds-bounds.ensures.value c.loop-side.weights c.add_at.new.weights
-      c.loop-side.side
-      (c.side_cell.ensures.value ∙ ap (λ l.
-      side_cell l c.bounds-bounds.result c.loop-side.side) c.bounds-largest.ensures.value)
-      (ap (λ n. get_or c.args.listed.now (n + c.loop-side.side) 0)
-      c.rim_numbers_of-first.ensures.first)
-      c.loop-side.invariant.each c.add_at.ensures.each;
+  size = cc;
+  each = adds_more c.bounds-bounds.ensures.lawful _ _ c.requires.tile c.args.weights.now c.bounds-bounds.ensures.value _
+      _ _ (c.side_cell.ensures.value ∙ ap (λ l. side_cell l c.bounds-bounds.result c.loop-side.side)
+      c.bounds-largest.ensures.value) (cc) c.loop-side.invariant.each c.add_at.ensures.each;
 }
 
 pub returns-clause-each : goal.returns-clause-each
 returns-clause-each c =
-    adds_done c.bounds-bounds.ensures.lawful c.args.listed.now c.args.tile
-    c.requires.tile c.args.weights.now
-    c.loop-side.weights (omega (
-      arith,
-      c.loop-side-test.false,
-      c.loop-side.auto.side-end,
-      c.rim_numbers_of-first.ensures.count,
-    ))
-    c.loop-side.invariant.each
+    adds_done c.bounds-bounds.ensures.lawful _ _ c.requires.tile _ _ (omega arith) c.loop-side.invariant.each

@@ -9,7 +9,6 @@ abbrev pub invariant-loop-side : goal.invariant-loop-side
 invariant-loop-side l = record {
   size : length l.weights ≡ length l.initial.weights;
   each : (p : Place) → IsInBounds (bounds_of l.tiling l.tile) p →
-      get_or l.weights (index_in (bounds_of l.tiling l.tile) p) 0
-      ≡ get_or l.initial.weights (index_in (bounds_of l.tiling l.tile) p) 0
-      + sum_below (λ k. adds l.tiling l.listed l.tile k p) l.side;
+      get_or l.weights (index_in (bounds_of l.tiling l.tile) p) 0 ≡ get_or l.initial.weights
+      (index_in (bounds_of l.tiling l.tile) p) 0 + sum_below (λ k. adds l.tiling l.listed l.tile k p) l.side;
 }

@@ -1,8 +1,8 @@
 use Rattle.std.proofs.Common.{refl}
-use Rattle.flow.specs.TileFlow.{Flow, exit_in}
+use Rattle.flow.specs.TileFlow.{exit_in}
 use Rattle.flow.proofs.RimFlows.{read_of_tile}
 use Rattle.flow.proofs.outlets.exit_of.Goals as goal
 
 pub returns : goal.returns
-returns g c = read_of_tile (λ (f : Flow). exit_in f c.args.place) (λ f. refl)
-    c.args.tiling.now _ _ _ c.of_tile.result.now _ c.tile_of.ensures.number c.of_tile.ensures c.exit.ensures
+returns g c = read_of_tile (λ f. exit_in f c.args.place) (λ f. refl) c.args.tiling.now _ _ _ c.of_tile.result.now _
+    c.tile_of.ensures.number c.of_tile.ensures c.exit.ensures

@@ -12,24 +12,17 @@ bounds-rim_ends-side c =
     let b = c.args.bounds in
     omega (
       arith,
-      side_below b b c.args.place (omega arith) (omega arith) c.requires.inside,
-      c.side_number-side.ensures,
+      side_below,
       ap length c.requires.rim,
-      length-map-range_with_len (λ side.
-          end_of c.args.links.now.links (index_in b (side_place b b side))) 0 (stride b),
+      length-map-range_with_len (λ side. end_of c.args.links.now.links (index_in b (side_place b b side))) 0 (stride b),
     )
 
 pub returns-then-is_place : goal.returns-then-is_place
 returns-then-is_place c =
     let b = c.args.bounds in
     let side = c.side_number-side.result in
-    let below : c.side_number-side.result < stride c.args.bounds = omega (
-      arith,
-      side_below b b c.args.place (omega arith) (omega arith) c.requires.inside,
-      c.side_number-side.ensures,
-    ) in
-    ap (λ xs. get_or xs side 0) c.requires.rim
-    ∙ get_or-map-range_with_len (λ i. end_of c.args.links.now.links (index_in b (side_place b b i))) 0
-    (stride b) side side 0 below (omega arith)
-    ∙ ap (λ p. end_of c.args.links.now.links (index_in b p)) (sym c.side_place.ensures
-    ∙ place_is _ _ (sym c.is_place.ensures ∙ c.if-is_place.true))
+    let below : c.side_number-side.result < stride c.args.bounds = omega (arith, side_below) in
+    ap (λ xs. get_or xs side 0) c.requires.rim ∙
+    get_or-map-range_with_len (λ i. end_of c.args.links.now.links (index_in b (side_place b b i))) 0 _ side side 0 below
+    (omega arith) ∙ ap (λ p. end_of c.args.links.now.links (index_in b p)) (sym c.side_place.ensures ∙
+    place_is _ _ (cc))

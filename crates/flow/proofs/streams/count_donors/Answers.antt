@@ -15,8 +15,7 @@ overflow_add-counts g c =
     let inside : c.next-next.result < length (g.L.Links.list c.args.links.now) = omega (
       arith,
       c.next-next.ensures,
-      c.requires.streams.inside c.loop-node.node
-          (omega (arith, c.loop-node-test.true, c.count-node-end.ensures)),
+      c.requires.streams.inside c.loop-node.node (omega (arith, c.loop-node-test.true, c.count-node-end.ensures)),
     ) in
     let fits : get_or c.loop-node.counts c.next-next.result 0 + 1 < 2 ^ 32 = omega (
       arith,

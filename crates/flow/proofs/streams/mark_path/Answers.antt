@@ -1,4 +1,4 @@
-use Rattle.std.proofs.Common.{◌+◌, ◌^◌, ◌<◌, inl, inr, get_or, sym, ap, refl, ◌∙◌, arith, rules}
+use Rattle.std.proofs.Common.{◌+◌, ◌^◌, ◌<◌, inl, inr, get_or, ap, refl, arith, rules}
 use Rattle.flow.proofs.Ending.{moves_left, moves_fall}
 use Rattle.flow.proofs.Sending.{entry_new, entry_added, entry_fits, set_kept, set_from, mark_added, mark_on, mark_end, marks_of}
 use Rattle.flow.proofs.streams.mark_path.Goals as goal
@@ -17,8 +17,7 @@ path-preserved g c =
     let i = c.path.invariant in
     let entry = entry_new c.requires.few i.marks i.inside c.path-test.true in
     record {
-      marks = mark_on c.requires.few i.marks i.inside entry c.path-test.true
-          c.next-next.ensures c.if-next-node.false;
+      marks = mark_on c.requires.few i.marks i.inside entry c.path-test.true c.next-next.ensures c.if-next-node.false;
       inside = omega (arith, c.next-next.ensures, c.requires.streams.inside c.path.node i.inside);
       few = omega arith;
       kept = λ j k. set_kept c.requires.few i.marks i.inside entry j (i.kept j k);
@@ -26,13 +25,11 @@ path-preserved g c =
     }
 
 pub path-smaller : goal.path-smaller
-path-smaller g c =
-    omega (
-      arith,
-      ap (moves_left (g.L.Links.list c.args.links.now)) c.next-next.ensures,
-      moves_fall c.requires.streams c.path.node c.path.invariant.inside
-          (λ e. c.if-next-node.false (c.next-next.ensures ∙ e)),
-    )
+path-smaller g c = omega (
+  arith,
+  ap (moves_left (g.L.Links.list c.args.links.now)) c.next-next.ensures,
+  moves_fall c.requires.streams _ c.path.invariant.inside (λ e. c.if-next-node.false (cc)),
+)
 
 pub overflow_add-waits : goal.overflow_add-waits
 overflow_add-waits g c =
@@ -46,10 +43,9 @@ returns-then-next-node g c =
     let i = c.path.invariant in
     let entry = entry_new c.requires.few i.marks i.inside c.path-test.true in
     record {
-      marks = mark_end c.requires.few i.marks i.inside entry c.path-test.true
-          (sym c.next-next.ensures ∙ c.if-next-node.true);
+      marks = mark_end c.requires.few i.marks i.inside entry c.path-test.true (cc);
       kept = λ j k. set_kept c.requires.few i.marks i.inside entry j (i.kept j k);
-      marked = λ _. set_from c.requires.few i.marks i.inside entry c.args.from i.marked;
+      marked = λ _. set_from c.requires.few i.marks i.inside entry _ i.marked;
     }
 
 pub returns : goal.returns

@@ -1,5 +1,5 @@
 use borrow.Author.Count.{below_more}
-use Rattle.std.proofs.Common.{◌≢◌, ℕ, get_or, arith}
+use Rattle.std.proofs.Common.{◌≢◌, get_or, arith}
 use Rattle.flow.specs.Sending.{IsMarked}
 use Rattle.flow.proofs.Sending.{marks_none}
 use Rattle.flow.proofs.streams.mark_paths.Goals as goal
@@ -11,10 +11,9 @@ loop-node-init g c =
 pub loop-node-preserved : goal.loop-node-preserved
 loop-node-preserved g c = record {
   marks = c.mark_path.ensures.marks;
-  early = below_more (λ (i : ℕ). get_or c.args.weights.now i 0 ≢ 0 → IsMarked c.mark_path.new.waits i) _
+  early = below_more (λ i. get_or c.args.weights.now i 0 ≢ 0 → IsMarked c.mark_path.new.waits i) _
       (λ i h ne. c.mark_path.ensures.kept i (c.loop-node.invariant.early i h ne)) c.mark_path.ensures.marked;
 }
 
 pub returns-clause-marked : goal.returns-clause-marked
-returns-clause-marked g c i h =
-    c.loop-node.invariant.early i (omega (arith, h, c.loop-node-test.false, c.count-node-end.ensures))
+returns-clause-marked g c i h = c.loop-node.invariant.early i (omega arith)

@@ -12,6 +12,5 @@ send_all-requires g c =
     λ κs le. (
       le,
       rw c.deref_mut-3.ensures.value (donors_begin links c.args.weights.items _ c.requires.streams c.requires.few
-          c.requires.same c.requires.fits
-          (rw (c.deref_mut-2.ensures.value ∙ all) c.count_donors.ensures)),
+          c.requires.same c.requires.fits (rw (c.deref_mut-2.ensures.value ∙ all) c.count_donors.ensures)),
     )

@@ -12,7 +12,6 @@ send_all-requires g c =
     λ κs le. (
       le,
       rw c.deref_mut-3.ensures.value (marks_begin links c.args.weights.items _ c.requires.streams c.requires.few
-          c.requires.same c.requires.fits 0
-          (rw all c.mark_paths.ensures.marks)
+          c.requires.same c.requires.fits 0 (rw all c.mark_paths.ensures.marks)
           (rw all (rw c.deref.ensures.value at c.mark_paths.ensures.marked))),
     )

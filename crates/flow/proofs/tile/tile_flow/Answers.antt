@@ -1,8 +1,7 @@
-use Rattle.std.proofs.Common.{◌≡◌, ℕ, List, length, sym, ap, refl, ◌∙◌, arith}
-use Rattle.std.specs.Prelude.{slice_index}
+use Rattle.std.proofs.Common.{◌≡◌, ℕ, List, length, ap, refl, ◌∙◌, arith}
 use Rattle.flow.specs.Streams.{AreSums}
 use Rattle.flow.specs.TileFlow.{Flow}
-use Rattle.flow.specs.TileLinks.{links_by, weights_by, counts_by, with_counts}
+use Rattle.flow.specs.TileLinks.{links_by, weights_by}
 use Rattle.flow.proofs.Counted.{weights_size}
 use Rattle.flow.proofs.Piece.{lists_seen, streams, few, fits, sizes, counts_are, exits_kept}
 use Rattle.flow.proofs.tile.tile_flow.Goals as goal
@@ -15,13 +14,13 @@ totals-requires-clause-streams c =
 pub totals-requires-clause-few : goal.totals-requires-clause-few
 totals-requires-clause-few c =
     let s = lists_seen c.in_ok-exits.ensures c.requires c.bounds.ensures.lawful in
-    omega (arith, few s, ap length c.links-links.ensures.links)
+    omega (arith, few, ap length c.links-links.ensures.links)
 
 pub totals-requires-clause-same : goal.totals-requires-clause-same
 totals-requires-clause-same c =
     let s = lists_seen c.in_ok-exits.ensures c.requires c.bounds.ensures.lawful in
     let weighed = c.in_ok-weights.ensures ∙ ap weights_by c.links-links.ensures.codes in
-    ap length weighed ∙ weights_size c.in_ok-exits.exits.codes ∙ sym (ap length c.links-links.ensures.links ∙ sizes s)
+    cc (weights_size c.in_ok-exits.exits.codes, sizes s)
 
 pub totals-requires-clause-fits : goal.totals-requires-clause-fits
 totals-requires-clause-fits c =
@@ -31,8 +30,7 @@ totals-requires-clause-fits c =
 summed_by : (f : Flow) {links codes_weights totals : List ℕ} → links ≡ links_by f.bounds f.codes →
     codes_weights ≡ weights_by f.codes → AreSums links codes_weights totals →
     AreSums (links_by f.bounds f.codes) (weights_by f.codes) totals
-summed_by f made weighed summed =
-    rw weighed at (rw made at summed)
+summed_by f made weighed summed = rw weighed at (rw made at summed)
 
 pub invariant_of-result : goal.invariant_of-result
 invariant_of-result c =
@@ -50,8 +48,6 @@ returns c =
     let s = lists_seen c.in_ok-exits.ensures c.requires c.bounds.ensures.lawful in
     let weighed = c.in_ok-weights.ensures ∙ ap weights_by c.links-links.ensures.codes in
     record {
-      exits = exits_kept (counts_by f.codes (slice_index totals))
-          c.in_ok-exits.ensures;
-      counts = counts_are s (summed_by f c.links-links.ensures.links weighed c.in_ok-totals.ensures)
-          (with_counts f totals) refl refl;
+      exits = exits_kept _ c.in_ok-exits.ensures;
+      counts = counts_are s (summed_by f c.links-links.ensures.links weighed c.in_ok-totals.ensures) _ refl refl;
     }

@@ -16,11 +16,11 @@ loop-side-preserved c =
     let cells = c.args.cells.now in
     let k = index_in b (side_place b b c.loop-side.side) in
     let move = c.rim_move.result in
-    let at : c.index_of-index.result ≡ k = c.index_of-index.ensures.value
-    ∙ ap (index_in b) c.side_place-place.ensures in
+    let at : c.index_of-index.result ≡ k = c.index_of-index.ensures.value ∙
+    ap (index_in b) c.side_place-place.ensures in
     let below : k < b.rows * b.cols = omega (arith, at, c.index_of-index.ensures.below) in
-    let read : c.index-cells-index.result ≡ get_or cells k None = c.index-cells-index.is
-    ∙ get_or_default cells c.index_of-index.result c.index-cells-index.result None (omega (
+    let read : c.index-cells-index.result ≡ get_or cells k None = c.index-cells-index.is ∙
+    get_or_default cells c.index_of-index.result c.index-cells-index.result None (omega (
       arith,
       c.requires.size,
       c.index_of-index.ensures.below,
@@ -33,8 +33,4 @@ loop-side-preserved c =
     (moves_next c.loop-side.side move below here c.loop-side.invariant)
 
 pub returns : goal.returns
-returns c = moves_all c.loop-side.side c.requires.small.some_col (omega (
-  arith,
-  c.loop-side-test.false,
-  c.side_count-side-end.ensures.value,
-)) c.loop-side.invariant
+returns c = moves_all _ c.requires.small.some_col (omega arith) c.loop-side.invariant

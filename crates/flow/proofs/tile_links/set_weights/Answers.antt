@@ -1,4 +1,4 @@
-use Rattle.std.proofs.Common.{◌≡◌, ℕ, ◌≤◌, length, get_or, map, Option, None, is_some, cond, sym, ap, ◌∙◌, arith}
+use Rattle.std.proofs.Common.{ℕ, ◌≤◌, length, get_or, map, Option, None, is_some, cond, sym, ap, ◌∙◌, arith}
 use Rattle.std.proofs.Math.ListN.{length-map}
 use Rattle.std.proofs.lemmas.Grind.{same_number_lists}
 use Rattle.std.proofs.lemmas.List.{get_or-map}
@@ -21,5 +21,5 @@ returns c =
     let moves = c.args.moves.now in
     let all : length moves ≤ c.loop-index.index = omega arith in
     let s = c.loop-index.invariant in
-    same_number_lists _ _ (s.size ∙ sym (length-map (map code_told moves) (λ (code : Option ℕ).
-    cond {A = ℕ} (is_some code) 1 0) ∙ length-map moves code_told)) (λ i h. s.each i 0 (omega (arith, h, all, s.size)))
+    same_number_lists _ _ (s.size ∙ sym (length-map (map code_told moves) (λ code. cond (is_some code) 1 0) ∙
+    length-map moves code_told)) (λ i h. s.each i 0 (omega arith))

@@ -6,10 +6,4 @@ pub returns : goal.returns
 returns g c _ i below =
     let self = c.args.self.now in
     let streams = self.sound.streams in
-    c.loop-node.invariant _ (omega (
-      arith,
-      end-inside streams i below,
-      c.loop-node-test.false,
-      c.loop-node.auto.node-end,
-      c.count-node-end.ensures,
-    )) (streams.ends i below)
+    c.loop-node.invariant _ (omega (arith, end-inside streams i below)) (streams.ends i below)

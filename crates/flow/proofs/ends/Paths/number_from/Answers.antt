@@ -1,4 +1,3 @@
-use Rattle.std.proofs.Common.{ap, ◌∙◌}
 use Rattle.flow.proofs.Ending.{ends_here, moves_less, next_on_path}
 use Rattle.flow.proofs.ends.Paths.number_from.Goals as goal
 
@@ -6,11 +5,10 @@ pub path-preserved : goal.path-preserved
 path-preserved g c = next_on_path c.args.self.now.sound.streams _ _ c.next-next.ensures c.path.invariant
 
 pub path-smaller : goal.path-smaller
-path-smaller g c = moves_less c.args.self.now.sound.streams c.path.node c.next-next.ensures c.if-next-node.false
+path-smaller g c = moves_less c.args.self.now.sound.streams _ c.next-next.ensures c.if-next-node.false
     c.path.invariant.0
 
 pub returns-then-next-node : goal.returns-then-next-node
 returns-then-next-node g c =
     let self = c.args.self.now in
-    c.number.ensures ∙ ap (g.N.EndNumbering.numbers self.numbers.now).number
-    (ends_here (g.L.Links.list self.links.now) c.args.from c.next-next.ensures c.if-next-node.true c.path.invariant)
+    cc (ends_here (g.L.Links.list self.links.now) c.args.from c.next-next.ensures c.if-next-node.true c.path.invariant)

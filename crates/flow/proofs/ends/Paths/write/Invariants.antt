@@ -8,8 +8,8 @@ abbrev pub invariant-path : goal.invariant-path
 invariant-path g l = record {
   found : AreKnown (g.L.Links.list l.self.links.now) (g.N.EndNumbering.numbers l.self.numbers.now).number l.found;
   inside : l.node < length (g.L.Links.list l.self.links.now);
-  number : l.number
-      ≡ (g.N.EndNumbering.numbers l.self.numbers.now).number (end_of (g.L.Links.list l.self.links.now) l.node);
+  number : l.number ≡ (g.N.EndNumbering.numbers l.self.numbers.now).number (end_of (g.L.Links.list l.self.links.now)
+      l.node);
   kept : (i : ℕ) → IsKnown l.initial.found i → IsKnown l.found i;
   known : (l.node ≡ l.from) ⊎ IsKnown l.found l.from;
 }

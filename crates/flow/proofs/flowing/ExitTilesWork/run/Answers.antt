@@ -1,8 +1,4 @@
-use Rattle.std.proofs.Common.{sym, subst}
-use Rattle.drainage.specs.Drained.{AllFlowEnds}
-use Rattle.flow.specs.TileFlow.{directed_by}
 use Rattle.flow.proofs.flowing.ExitTilesWork.run.Goals as goal
 
 pub tile_exits-requires : goal.tile_exits-requires
-tile_exits-requires c = subst (λ x. AllFlowEnds (directed_by x))
-    (sym c.view-view.ensures) c.args.self.now.flows.ends
+tile_exits-requires c = rw c.view-view.ensures c.args.self.now.flows.ends

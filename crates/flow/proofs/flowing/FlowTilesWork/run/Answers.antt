@@ -1,8 +1,4 @@
-use Rattle.std.proofs.Common.{sym, subst}
-use Rattle.drainage.specs.Drained.{AllFlowEnds}
-use Rattle.flow.specs.TileFlow.{directed_by}
 use Rattle.flow.proofs.flowing.FlowTilesWork.run.Goals as goal
 
 pub tile_flow-requires : goal.tile_flow-requires
-tile_flow-requires c = subst (λ x. AllFlowEnds (directed_by x))
-    (sym c.view-view.ensures) c.args.self.now.flows.ends
+tile_flow-requires c = rw c.view-view.ensures c.args.self.now.flows.ends

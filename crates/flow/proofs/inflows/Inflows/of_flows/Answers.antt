@@ -13,16 +13,12 @@ pub totals-requires-clause-streams : goal.totals-requires-clause-streams
 totals-requires-clause-streams c = rim_streams c.requires.flows.1 c.requires.links
 
 pub totals-requires-clause-few : goal.totals-requires-clause-few
-totals-requires-clause-few c = omega (
-  arith,
-  links_size c.requires.flows.1 c.requires.links,
-  few_numbers _ c.requires.flows.1.cutting,
-)
+totals-requires-clause-few c = omega (arith, links_size c.requires.flows.1 c.requires.links, few_numbers)
 
 pub totals-requires-clause-same : goal.totals-requires-clause-same
 totals-requires-clause-same c =
-    weights_size c.requires.flows.1 c.requires.flows.2 c.requires.links c.in_ok-weights.ensures
-    ∙ sym (links_size c.requires.flows.1 c.requires.links)
+    weights_size c.requires.flows.1 c.requires.flows.2 c.requires.links c.in_ok-weights.ensures ∙
+    sym (links_size c.requires.flows.1 c.requires.links)
 
 pub totals-requires-clause-fits : goal.totals-requires-clause-fits
 totals-requires-clause-fits c i h =
@@ -30,12 +26,11 @@ totals-requires-clause-fits c i h =
     omega (
       arith,
       total_few c.requires.flows.1 c.requires.flows.2 made c.in_ok-weights.ensures i
-          (omega (arith, h, links_size c.requires.flows.1 made)),
+          (omega (arith, links_size c.requires.flows.1 made)),
     )
 
 pub send_all-requires-clause-targets : goal.send_all-requires-clause-targets
-send_all-requires-clause-targets c =
-    targets_size _ _ (c.deref-2.ensures.value ∙ c.requires.targets)
+send_all-requires-clause-targets c = targets_size _ _ (c.deref-2.ensures.value ∙ c.requires.targets)
 
 pub send_all-requires-clause-within : goal.send_all-requires-clause-within
 send_all-requires-clause-within c i h =
@@ -43,18 +38,16 @@ send_all-requires-clause-within c i h =
 
 pub send_all-requires-clause-totals : goal.send_all-requires-clause-totals
 send_all-requires-clause-totals c =
-    ap length c.deref-3.ensures.value ∙ c.in_ok-totals.ensures.size
-    ∙ links_size c.requires.flows.1 c.requires.links
+    ap length c.deref-3.ensures.value ∙ c.in_ok-totals.ensures.size ∙ links_size c.requires.flows.1 c.requires.links
 
 pub send_all-requires-clause-few : goal.send_all-requires-clause-few
-send_all-requires-clause-few c k =
-    omega (
-      arith,
-      entering_few c.requires.flows.1 c.requires.flows.2 (c.deref-2.ensures.value
-          ∙ c.requires.targets) c.requires.links c.in_ok-weights.ensures c.in_ok-totals.ensures k,
-      ap (λ l. sum_below (entering c.args.tiling.now c.deref-2.result.now l k)
-          (rim_number_count c.args.tiling.now)) c.deref-3.ensures.value,
-    )
+send_all-requires-clause-few c k = omega (
+  arith,
+  entering_few c.requires.flows.1 c.requires.flows.2 (c.deref-2.ensures.value ∙ c.requires.targets) c.requires.links
+      c.in_ok-weights.ensures c.in_ok-totals.ensures k,
+  ap (λ l. sum_below (entering c.args.tiling.now c.deref-2.result.now l k) (rim_number_count c.args.tiling.now))
+      c.deref-3.ensures.value,
+)
 
 pub send_all-requires-clause-none : goal.send_all-requires-clause-none
 send_all-requires-clause-none c =
@@ -65,8 +58,7 @@ returns-clause-inflows c d f counts =
     let t = c.args.tiling.now in
     let targets = c.deref-2.result.now in
     let sent = c.send_all.new.listed in
-    let all = take_at sent (drop (length sent) c.in_ok-listed.listed.items)
-    c.in_ok-listed.listed.len (c.send_all.auto.listed ∙ c.deref_mut.ensures.len) in
-    inflows_are f counts (c.deref-2.ensures.value ∙ c.requires.targets)
-    c.requires.links c.in_ok-weights.ensures c.in_ok-totals.ensures
-    (rw all (rw c.deref-3.ensures.value at c.send_all.ensures))
+    let all = take_at sent (drop (length sent) c.in_ok-listed.listed.items) c.in_ok-listed.listed.len
+    (c.send_all.auto.listed ∙ c.deref_mut.ensures.len) in
+    inflows_are f counts (c.deref-2.ensures.value ∙ c.requires.targets) c.requires.links c.in_ok-weights.ensures
+    c.in_ok-totals.ensures (rw all (rw c.deref-3.ensures.value at c.send_all.ensures))

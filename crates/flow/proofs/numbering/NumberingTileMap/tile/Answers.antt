@@ -42,14 +42,13 @@ returns g c =
     let m = c.args.self.now in
     let f = c.index-flow.result.now in
     let there : slice_get m.flows.items c.args.tile ≡ Some f =
-    slice_get_read m.flows.items (length m.flows.items) c.args.tile f refl
-    (omega (arith, c.requires, m.ready.count)) c.index-flow.ensures in
+    slice_get_read m.flows.items (length m.flows.items) c.args.tile f refl (omega (arith, c.requires, m.ready.count))
+    c.index-flow.ensures in
     let ready = m.ready.each c.args.tile f there in
-    let made = c.in_ok-values.ensures ∙ ap (λ l. cell_numbers_by l c.deref.result.now) c.links.ensures.codes
-    ∙ ap (cell_numbers_by f.codes) c.deref.ensures.value in
-    let size = ap length made ∙ length-map-range_with_len (λ i.
-    where_data (get_or f.codes i None) (get_or c.in_ok-numbers.numbers.items i 0)) 0 (length f.codes)
-    ∙ ready.numbered.codes_size ∙ ready.size in
+    let made = c.in_ok-values.ensures ∙ ap (λ l. cell_numbers_by l c.deref.result.now) c.links.ensures.codes ∙
+    ap (cell_numbers_by f.codes) c.deref.ensures.value in
+    let size = ap length made ∙ length-map-range_with_len (λ i. where_data (get_or f.codes i None)
+    (get_or c.in_ok-numbers.numbers.items i 0)) 0 (length f.codes) ∙ ready.numbered.codes_size ∙ ready.size in
     tile_of_entries m.tiling.now c.args.tile (IsEndNumberAt m.tiling.now m.flows.items m.outlets
-    (g.N.EndNumbering.numbers m.numbers)) c.in_ok-values.values.items size
-    (λ p i d s. entry_numbered s c.args.tile f there c.in_ok-numbers.ensures made p i)
+    (g.N.EndNumbering.numbers m.numbers)) c.in_ok-values.values.items size (λ p i d s. entry_numbered s c.args.tile f
+    there c.in_ok-numbers.ensures made p i)

@@ -1,4 +1,3 @@
-use Rattle.std.proofs.Common.{ℕ, Vec, Global}
 use Rattle.std.proofs.lemmas.Result.{IfOk-weaker}
 use Rattle.flow.specs.Streams.{AreEndNumbers}
 use Rattle.flow.specs.Numbering.{AreExitNumbers}
@@ -7,7 +6,7 @@ use Rattle.flow.proofs.tile_exits.TileExits.exit_numbers.Goals as goal
 
 pub returns : goal.returns
 returns g c =
-    let number = (g.N.EndNumbering.numbers c.args.numbers.now).number in
-    IfOk-weaker c.end_numbers.result (λ (v : Vec ℕ Global). AreEndNumbers c.self.inside.links.links number v.items)
-    (λ (v : Vec ℕ Global). AreExitNumbers c.args.self.now number v.items)
-    (λ v are. exit_numbers_are c.self.invariant c.self.view_is c.requires.few are) c.end_numbers.ensures
+    let number = (g.N.EndNumbering.numbers _).number in
+    IfOk-weaker _ (λ v. AreEndNumbers c.self.inside.links.links number v.items)
+    (λ v. AreExitNumbers c.args.self.now number v.items) (λ v are. exit_numbers_are c.self.invariant c.self.view_is
+    c.requires.few are) c.end_numbers.ensures

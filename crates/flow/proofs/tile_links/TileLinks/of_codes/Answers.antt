@@ -1,27 +1,22 @@
-use Rattle.std.proofs.Common.{◌≡◌, drop, length, map, subst, sym, ◌∙◌}
+use Rattle.std.proofs.Common.{drop, length, ◌∙◌}
 use Rattle.std.proofs.lemmas.List.{take_at}
-use Rattle.flow.specs.TileLinks.{AreMoves, code_told, moved_by, links_by}
 use Rattle.flow.proofs.Moved.{moves_fit, moved_links, told_codes}
 use Rattle.flow.proofs.tile_links.TileLinks.of_codes.Goals as goal
 
 pub invariant_of-result : goal.invariant_of-result
 invariant_of-result c =
     let new = c.set_moves.new.moves in
-    subst (λ moves. AreMoves c.args.bounds.cols moves)
-    (sym (take_at new (drop (length new) c.in_ok-moves.moves.items) c.in_ok-moves.moves.len
-    (c.set_moves.auto.moves ∙ c.deref_mut.ensures.len))) (moves_fit c.requires.small c.set_moves.ensures)
+    rw (take_at new (drop (length new) c.in_ok-moves.moves.items) c.in_ok-moves.moves.len (c.set_moves.auto.moves ∙
+    c.deref_mut.ensures.len)) (moves_fit c.requires.small c.set_moves.ensures)
 
 pub returns-clause-codes : goal.returns-clause-codes
 returns-clause-codes c =
     let new = c.set_moves.new.moves in
-    subst (λ moves. map code_told moves ≡ c.args.cells.now)
-    (sym (take_at new (drop (length new) c.in_ok-moves.moves.items) c.in_ok-moves.moves.len
-    (c.set_moves.auto.moves ∙ c.deref_mut.ensures.len)))
-    (told_codes c.requires.small c.set_moves.ensures c.requires.size)
+    rw (take_at new (drop (length new) c.in_ok-moves.moves.items) c.in_ok-moves.moves.len (c.set_moves.auto.moves ∙
+    c.deref_mut.ensures.len)) (told_codes c.requires.small c.set_moves.ensures c.requires.size)
 
 pub returns-clause-links : goal.returns-clause-links
 returns-clause-links c =
     let new = c.set_moves.new.moves in
-    subst (λ moves. moved_by c.args.bounds.cols moves ≡ links_by c.args.bounds c.args.cells.now)
-    (sym (take_at new (drop (length new) c.in_ok-moves.moves.items) c.in_ok-moves.moves.len
-    (c.set_moves.auto.moves ∙ c.deref_mut.ensures.len))) (moved_links c.requires.small c.set_moves.ensures)
+    rw (take_at new (drop (length new) c.in_ok-moves.moves.items) c.in_ok-moves.moves.len (c.set_moves.auto.moves ∙
+    c.deref_mut.ensures.len)) (moved_links c.requires.small c.set_moves.ensures)
