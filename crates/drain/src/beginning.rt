@@ -36,13 +36,12 @@ fn any_gap_or_lower(cells: &[Cell], at: &[usize; 8], level: Height) -> bool
         ((way : ℕ) → way < 8 →
         IsGapOrLower level (slice_index_or cells.now (slice_index_or at.now way 0) None) → ⊥) }
 {
+    let mut any = false;
     for way in 0..8 {
-        let index = at[way];
-        if is_gap_or_lower(level, cells[index].height()) {
-            return true;
-        }
+        // No branch: which way leads down is hard to guess.
+        any |= is_gap_or_lower(level, cells[at[way]].height());
     }
-    false
+    any
 }
 
 /// Returns 0 for a data cell of the tile with a gap or a lower cell around it, else [`NO_COUNT`].

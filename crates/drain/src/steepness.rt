@@ -87,7 +87,8 @@ fn goes_before(weight: u128, way: usize, other_weight: u128, other_way: usize) -
         ((other_weight ≤ weight) × ((way ≤ other_way) ⊎ (other_weight < weight)))
         ((weight ≤ other_weight) × ((other_way ≤ way) ⊎ (weight < other_weight))) }
 {
-    weight > other_weight || (weight == other_weight && way < other_way)
+    // No branch: which parity falls more is hard to guess.
+    (weight > other_weight) | ((weight == other_weight) & (way < other_way))
 }
 
 /// Returns the first of the steepest ways down, `None` if no way leads down.
