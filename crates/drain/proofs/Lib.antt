@@ -12,12 +12,13 @@ pub mod Counted
 pub mod TileLists
 -- the initial counts of a tile's window, and the search over it
 pub mod Spreading
-pub mod Least
+pub mod Beside
 pub mod Begun
 pub mod TileRound
 -- counts between rounds, and lower counts that rounds find
 pub mod Sound
 -- the direction of a cell, and which cells drain at once
+pub mod Signs
 pub mod GapOrLower
 pub mod AroundLemmas
 pub mod Onward

@@ -1,11 +1,12 @@
 -- The steepest way has the greatest drop on the even ways, along a row or column, or that on the
 -- odd ways, the diagonals. The drop of greater weight decides, of equal ones the first. Ways are the
 -- directions, 0 to 7 in code order.
-use Rattle.std.proofs.Common.{◌≡◌, ℕ, ◌+◌, ◌*◌, ◌<◌, ◌≤◌, ◌%◌, ◌⊎◌, inl, inr, eqb, ltb, Bool, length, get_or, List, Option, None, Some, fold, max, cond, true, false, ℤ, pos, negsuc, ◌-ℤ◌, ◌≤ℤ◌, ◌<ℤ◌, IfSome, unwrap_or, refl, sym, ap, ◌∙◌, arith}
+use Rattle.std.proofs.Common.{◌≡◌, ℕ, zero, suc, ◌+◌, ◌*◌, ◌<◌, ◌≤◌, ◌/◌, ◌%◌, ◌⊎◌, inl, inr, eqb, ltb, Bool, length, get_or, List, Option, None, Some, fold, max, cond, true, false, ℤ, pos, negsuc, ◌-ℤ◌, ◌≤ℤ◌, ◌<ℤ◌, IfSome, unwrap_or, refl, sym, ap, ◌∙◌, arith}
 use Rattle.std.proofs.lemmas.Bool.{cases_eq, cases_lt, eq-eqb, eqb-true, ne_eqb, lt-ltb, le-ltb, cond-true, cond-false, false≢true}
 use Rattle.std.proofs.lemmas.List.Folds.{list_any_at}
 use Rattle.std.proofs.lemmas.List.Quantifiers.{position-Some}
 use Rattle.std.proofs.lemmas.Int.{ints}
+use Rattle.std.proofs.lemmas.Nat.{mul-le, mul-lt}
 use Rattle.terrain.specs.Raster.{IsHeight}
 use Rattle.terrain.specs.StoredCells.{no_data}
 use Rattle.terrain.specs.Ways.{code_of}
@@ -102,42 +103,63 @@ fall_next {level = level} {heights = heights} {parity = parity} {way = way} {nex
       },
     )
 
--- The fall of one parity weighs no less than that of the other, and weighs more or comes first.
+-- no square but 0 is twice another: the roots would be even, and have halves of the same kind
+pub root_of_two : (n a b : ℕ) → a ≤ n → 2 * (a * a) ≡ b * b → a ≡ 0
+root_of_two zero a b few twice = omega (arith, few)
+root_of_two (suc n) a b few twice =
+    let half = b / 2 in
+    let even : b ≡ half + half = elim (cases_eq (b % 2) 0) [
+      | inl e ↦ omega (arith, e)
+      | inr odd ↦ (let is : b ≡ half + half + 1 = omega (arith, odd) in
+          absurd (omega (arith, rw is at twice, square_of half 1)))
+    ] in
+    let less : 2 * (half * half) ≡ a * a = omega (arith, rw even at twice, square_of half 0) in
+    elim (cases_eq a 0) [
+      | inl none ↦ none
+      | inr some ↦ (let none = root_of_two n half a (elim (cases_lt half a) [
+          | inl below ↦ omega (arith, few, below)
+          | inr above ↦ absurd (omega (arith, mul-le a a half half above above, mul-lt 0 0 a a (omega (arith, some)) (omega (arith, some)), less))
+        ]) less in
+        absurd (omega (arith, less, rw none at less, mul-lt 0 0 a a (omega (arith, some)) (omega (arith, some)))))
+    ]
+  where
+    square_of : (h r : ℕ) → (h + h + r) * (h + h + r) ≡ 4 * (h * h) + 4 * (h * r) + r * r
+    square_of h r = omega arith
+
+-- The fall of one parity weighs no less than that of the other, and more unless both weigh 0.
 module _ {level : ℤ} {heights : List (Option ℤ)} {x y way other : ℕ}
     (own : IsGreatestFall level heights x 4 way) (beside : IsGreatestFall level heights y 4 other)
-    (apart : x + y ≡ 1) (before : (weight_on level heights other ≤ weight_on level heights way)
-    × ((way ≤ other) ⊎ (weight_on level heights other < weight_on level heights way))) where
+    (apart : x + y ≡ 1) (before : weight_on level heights other ≤ weight_on level heights way)
+    (unequal : weight_on level heights other ≡ weight_on level heights way → weight_on level heights way ≡ 0) where
   bounded : (k : ℕ) → k < 8 → weight_on level heights k ≤ weight_on level heights way
   bounded k below = elim (cases_eq (k % 2) x) [
     | inl e ↦ own.bound k below e
-    | inr ne ↦ omega (arith, beside.bound k below (omega (arith, ne, apart)), before.0)
+    | inr ne ↦ omega (arith, beside.bound k below (omega (arith, ne, apart)), before)
   ]
 
-  pub steepest_is : (drop : ℕ) → drop ≡ drop_on level heights way →
-      IsFirstSteepest level heights (then_some (ltb 0 drop) way)
-  steepest_is drop is = elim (cases_lt 0 drop) [
-    | inl some ↦ (let weighs = some_weight way (drop_on level heights way) (omega (arith, some, is)) in
-        rw (lt-ltb 0 drop some) (record {
+  flat : drop_on level heights way ≡ 0 → (k : ℕ) → k < 8 → drop_on level heights k ≡ 0
+  flat none k below = drop_from_weight k (drop_on level heights k)
+      (omega (arith, bounded k below, weightless way none))
+
+  pub steepest_is : (sum : ℕ) → sum ≡ drop_on level heights way + drop_on level heights other →
+      IsFirstSteepest level heights (then_some (ltb 0 sum) way)
+  steepest_is sum is = elim (cases_eq (drop_on level heights way) 0) [
+    | inl none ↦ rw (le-ltb 0 sum (omega (arith, is, none, flat none other (omega (arith, beside.within)))))
+        (record { each = flat none })
+    | inr some ↦ (let weighs = some_weight way (drop_on level heights way) (omega (arith, some)) in
+        rw (lt-ltb 0 sum (omega (arith, is, some))) (record {
           below = omega (arith, own.within);
-          down = omega (arith, some, is);
+          down = omega (arith, some);
           bound = bounded;
           first = λ k less. elim (cases_eq (k % 2) x) [
             | inl e ↦ own.first weighs k less e
-            | inr ne ↦ (let e : k % 2 ≡ y = omega (arith, ne, apart) in
-                let le = beside.bound k (omega (arith, less, own.within)) e in
-                elim before.1 [
-                  | inl first ↦ elim (cases_lt 0 (weight_on level heights other)) [
-                    | inl down ↦ omega (arith, beside.first down k (omega (arith, less, first)) e, before.0)
-                    | inr flat ↦ omega (arith, le, flat, weighs)
-                  ]
-                  | inr more ↦ omega (arith, le, more)
+            | inr ne ↦ (let le = beside.bound k (omega (arith, less, own.within)) (omega (arith, ne, apart)) in
+                elim (cases_eq (weight_on level heights other) (weight_on level heights way)) [
+                  | inl same ↦ absurd (omega (arith, unequal same, weighs))
+                  | inr differ ↦ omega (arith, le, before, differ)
                 ])
           ];
         }))
-    | inr none ↦ rw (le-ltb 0 drop none) (record {
-      each = λ k below. drop_from_weight k (drop_on level heights k)
-          (omega (arith, bounded k below, weightless way {drop = drop_on level heights way} (omega (arith, none, is))));
-    })
   ]
 
 -- The surroundings have these heights.

@@ -30,7 +30,7 @@ use Rattle.drain.proofs.Unique.{at_place}
 use Rattle.drain.proofs.Few.{data_on_walk}
 
 -- a spot with a value shows a place that has this value in the list
-is_on : {X : Type 0} (cols rows : ℕ) (entries : List (Option X)) (b : Bounds) (s : Place)
+pub is_on : {X : Type 0} (cols rows : ℕ) (entries : List (Option X)) (b : Bounds) (s : Place)
     (o : Option X) (x : X) → IsShown (entry_or cols rows entries None) None b s o → o ≡ Some x →
     (p : Place) × Shows b s p × (entry_at cols rows entries p ≡ Some x)
 is_on {X = X} cols rows entries b s o x shown is =

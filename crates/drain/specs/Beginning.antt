@@ -3,7 +3,7 @@
 -- Public.
 use Rattle.std.specs.Prelude.{◌≡◌, ◌⊎◌, ◌≤◌, ◌<◌, ℕ, ◌+◌, ◌*◌, ℤ, ◌<ℤ◌, List, length, Option, None, Some, IfSome, slice_index_or}
 use Rattle.terrain.specs.Neighbours.{IsInside, entry_at, IsEdge}
-use Rattle.terrain.specs.Raster.{Terrain}
+use Rattle.terrain.specs.Raster.{Terrain, IsHeight}
 use Rattle.terrain.specs.Ways.{around_index}
 use Rattle.terrain.specs.declared.place.Place.{Place}
 use Rattle.tiles.specs.declared.bounds.Bounds.{Bounds}
@@ -12,7 +12,7 @@ use Rattle.tiles.specs.Cutting.{Cutting, IsInTile, cell_count, tile_count, tile_
 use Rattle.drain.specs.Steps.{HasLower, DrainsAtOnce}
 use Rattle.drain.specs.Rounds.{IsRound, IsWalked}
 use Rattle.drain.specs.Search.{AreAtMostNoCount, count_on, height_on}
-use Rattle.tiles.specs.Windows.{AreMadeSpots, IsInner, IsSpot, Shows, area_of, spot_index}
+use Rattle.tiles.specs.Windows.{IsInner, IsSpot, Shows, area_of, spot_index}
 use Rattle.drainage.specs.StepCounts.{known, no_count}
 
 -- The cell has no data or lies below height `level`.
@@ -46,13 +46,18 @@ HasGapOrLower w s = IsInner w.bounds s × (level : ℤ) × (height_on w s ≡ So
 abbrev pub IsBegunSpot : (Place → Type 0) → Place → ℕ → Type 0
 IsBegunSpot Drains s count = (count ≤ no_count) × IsInitialCount Drains s (known count)
 
--- The initial counts at the spots of index below `end`: 0 where `Drains` holds, else unknown.
-abbrev pub AreBegunUpTo : (Place → Type 0) → Bounds → ℕ → List ℕ → Type 0
-AreBegunUpTo Drains b end counts = AreMadeSpots (IsBegunSpot Drains) b end 0 counts
+-- Each cell has no data or has a height within the limits.
+abbrev pub AreHeights : List (Option ℤ) → Type 0
+AreHeights cells = (k : ℕ) → IfSome (slice_index_or cells k None) IsHeight
 
--- The initial counts at all spots.
-abbrev pub AreBegunSpots : (Place → Type 0) → Bounds → List ℕ → Type 0
-AreBegunSpots Drains b counts = AreBegunUpTo Drains b (area_of b) counts
+-- The initial counts at the spots around the tile and at those of the tile in the rows before
+-- `row`, and in it before column `col`: 0 where `Drains` holds, else unknown.
+pub record AreBegunUpTo (Drains : Place → Type 0) (b : Bounds) (row col : ℕ)
+    (counts : List ℕ) : Type 0 where
+  pub size : length counts ≡ area_of b
+  pub each : (s : Place) → IsSpot b s →
+      (IsInner b s → (s.row < row) ⊎ ((s.row ≡ row) × (s.col < col))) →
+      IsBegunSpot Drains s (count_on b counts s)
 
 -- Each known count is the length of a flat walk from the place of its spot.
 abbrev pub AreSoundSpots : Terrain → Bounds → List ℕ → Type 0

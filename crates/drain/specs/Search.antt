@@ -48,16 +48,6 @@ pub data IsSpread (w : Window (Option ℤ)) (old : List ℕ) : List ℕ → Type
       AreLevel w r s → count_on w.bounds some r + 1 < count_on w.bounds counts s →
       IsSpread w old (slice_set counts (spot_index w.bounds s) (count_on w.bounds some r + 1))
 
--- `least` is 1 plus the least count at height `level` in row `from.row` and columns
--- `from.col..end`, but at most `bound`.
-pub record IsLeastAlong (w : Window (Option ℤ)) (counts : List ℕ) (from : Place) (end : ℕ)
-    (level : Option ℤ) (bound least : ℕ) : Type 0 where
-  pub low : least ≤ bound
-  pub each : (r : Place) → r.row ≡ from.row → from.col ≤ r.col → r.col < end →
-      height_on w r ≡ level → least ≤ count_on w.bounds counts r + 1
-  pub one : (least ≡ bound) ⊎ ((r : Place) × (r.row ≡ from.row) × (from.col ≤ r.col) × (r.col < end)
-      × (height_on w r ≡ level) × (least ≡ count_on w.bounds counts r + 1) × (least < bound))
-
 -- The spot's count is at most one above those of adjacent spots of its height.
 pub record IsNear (w : Window (Option ℤ)) (counts : List ℕ) (s : Place) : Type 0 where
   pub each : (r : Place) → Touches s r → height_on w r ≡ height_on w s →

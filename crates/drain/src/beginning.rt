@@ -2,80 +2,79 @@
 //!
 //! A data cell drains at once on the grid's border, beside NODATA or a lower cell, or as a sink.
 //! A spot is a place of a tile's window: the tile and a border of one cell around it.
-ghost use Rattle.std.specs.Prelude.{ℕ, ◌+◌, ◌*◌, ◌<◌, ◌↔◌, None, length, IsTrue, OnOk, IfOk, slice_index_or};
+ghost use Rattle.std.specs.Prelude.{◌≡◌, ℕ, ◌+◌, ◌<◌, ◌≤◌, ◌↔◌, None, length, IfOk, IfSome, slice_index_or};
 ghost use Rattle.std.specs.Bool.{MatchBool};
-ghost use Rattle.terrain.specs.Neighbours.{entry_or};
-ghost use Rattle.drain.specs.Beginning.{AreBegun, AreBegunUpTo, HasGapOrLower, IsBegunSpot, IsEdgeOrHasLower, IsGapOrLower};
+ghost use Rattle.std.specs.Int.{bit_at};
+ghost use Rattle.terrain.specs.Raster.{IsHeight, IsTerrain};
+ghost use Rattle.drain.specs.Beginning.{AreBegun, AreBegunUpTo, AreHeights, HasGapOrLower, IsBegunSpot, IsEdgeOrHasLower, IsGapOrLower};
 ghost use Rattle.drain.specs.Steps.{DrainsAtOnce};
-ghost use Rattle.tiles.specs.Windows.{IsSpot};
+ghost use Rattle.tiles.specs.Windows.{IsInner};
 ghost use Rattle.drain.specs.Search.{AreEntriesShown};
 
 use drainage::NO_COUNT;
 use std::alloc::{AllocError, Global};
-use terrain::{Cell, Grid, Height, Place};
+use terrain::{Cell, Grid, HIGHEST, Height, Place};
 use tiles::{Window, spot_of};
 
-/// Returns whether a cell has no data or lies below `level`.
+/// Returns a number whose top bit is 1 if a cell has no data or lies below `level`.
+/// That is the sign of a difference; unlike a comparison it is found for several cells at once.
 #[inline(always)]
-fn is_gap_or_lower(level: Height, cell: Option<Height>) -> bool
-    ensures { IsTrue result ↔ IsGapOrLower level cell }
+fn gap_or_lower_sign(level: Height, cell: Cell) -> u64
+    requires { IfSome cell IsHeight }
+    ensures { IsHeight level → (bit_at result 63 ≡ 1) ↔ IsGapOrLower level cell }
 {
-    match cell {
-        Some(height) => height < level,
-        None => true,
-    }
+    let height = cell.number();
+    height.wrapping_sub(level).cast_unsigned() | HIGHEST.wrapping_sub(height).cast_unsigned()
 }
 
 /// Returns whether a cell at one of the indexes `at` lacks data or is below `level`.
 #[inline(always)]
 fn any_gap_or_lower(cells: &[Cell], at: &[usize; 8], level: Height) -> bool
-    requires { (way : ℕ) → way < 8 → slice_index_or at.now way 0 < length cells.now }
-    ensures { MatchBool result
+    requires cells { (way : ℕ) → way < 8 → slice_index_or at.now way 0 < length cells.now }
+    requires heights { (way : ℕ) → way < 8 →
+        IfSome (slice_index_or cells.now (slice_index_or at.now way 0) None) IsHeight }
+    ensures { IsHeight level → MatchBool result
         ((way : ℕ) × (way < 8)
         × IsGapOrLower level (slice_index_or cells.now (slice_index_or at.now way 0) None))
         ((way : ℕ) → way < 8 →
         IsGapOrLower level (slice_index_or cells.now (slice_index_or at.now way 0) None) → ⊥) }
 {
-    let mut any = false;
+    let mut signs = 0;
     for way in 0..8 {
-        // No branch: which way leads down is hard to guess.
-        any |= is_gap_or_lower(level, cells[at[way]].height());
+        signs |= gap_or_lower_sign(level, cells[at[way]]);
     }
-    any
+    signs >> 63 == 1
 }
 
 /// Returns 0 for a data cell of the tile with a gap or a lower cell around it, else [`NO_COUNT`].
 #[inline(always)]
 fn initial_count(window: &Window<Cell>, spot: Place) -> u32
-    requires { IsSpot window.now.bounds spot }
+    requires spot { IsInner window.now.bounds spot }
+    requires heights { AreHeights window.now.values.items }
     ensures { IsBegunSpot (HasGapOrLower window.now) spot result }
 {
-    if !window.is_inner(spot) {
-        return NO_COUNT;
-    }
     let cells: &[Cell] = &window.values;
-    let Some(level) = cells[window.index(spot)].height() else {
-        return NO_COUNT;
-    };
-    if any_gap_or_lower(cells, &window.around(spot), level) {
+    let cell = cells[window.index(spot)];
+    let drains = any_gap_or_lower(cells, &window.around(spot), cell.number());
+    // No branch: it would keep the compiler from looking at several cells at once.
+    if drains & cell.height().is_some() {
         0
     } else {
         NO_COUNT
     }
 }
 
-/// Appends the initial counts of one window row, without regard to sinks.
-fn begin_along(window: &Window<Cell>, row: u32, counts: &mut Vec<u32>) -> Result<(), AllocError>
-    requires row { row < window.now.bounds.rows + 2 }
-    requires counts { AreBegunUpTo (HasGapOrLower window.now) window.now.bounds
-        (row * (window.now.bounds.cols + 2)) counts.old.items }
-    ensures { OnOk result (AreBegunUpTo (HasGapOrLower window.now) window.now.bounds
-        ((row + 1) * (window.now.bounds.cols + 2)) counts.new.items) }
+/// Writes the initial counts of one row of the tile, without regard to sinks.
+fn begin_along(window: &Window<Cell>, row: u32, counts: &mut [u32])
+    requires row { (1 ≤ row) × (row ≤ window.now.bounds.rows) }
+    requires heights { AreHeights window.now.values.items }
+    requires counts { AreBegunUpTo (HasGapOrLower window.now) window.now.bounds row 0 counts.old }
+    ensures { AreBegunUpTo (HasGapOrLower window.now) window.now.bounds (row + 1) 0 counts.new }
 {
-    for col in 0..window.bounds.cols + 2 {
-        counts.push(initial_count(window, Place { row, col }))?;
+    for col in 1..window.bounds.cols + 1 {
+        let spot = Place { row, col };
+        counts[window.index(spot)] = initial_count(window, spot);
     }
-    Ok(())
 }
 
 /// Sets the count of each named sink with data in the tile to 0.
@@ -102,18 +101,20 @@ pub(crate) fn begun_counts(
     grid: &Grid,
     window: &Window<Cell>,
 ) -> Result<Vec<u32>, AllocError>
-    requires { AreEntriesShown grid.now.terrain grid.now.terrain.cells window.now.bounds
+    requires lawful { IsTerrain grid.now.terrain }
+    requires shown { AreEntriesShown grid.now.terrain grid.now.terrain.cells window.now.bounds
         window.now.values.items }
     ensures { IfOk result (λ counts. AreBegun grid.now.terrain window.now.bounds
         (DrainsAtOnce grid.now.terrain) counts.items) }
 {
     let bounds = window.bounds;
-    let mut counts = Vec::with_capacity(
-        alloc,
-        (bounds.rows as usize + 2) * (bounds.cols as usize + 2),
-    )?;
-    for row in 0..bounds.rows + 2 {
-        begin_along(window, row, &mut counts)?;
+    let mut counts = vec![
+        in alloc;
+        NO_COUNT;
+        (bounds.rows as usize + 2) * (bounds.cols as usize + 2)
+    ]?;
+    for row in 1..bounds.rows + 1 {
+        begin_along(window, row, &mut counts);
     }
     begin_at_sinks(grid, window, &mut counts);
     Ok(counts)

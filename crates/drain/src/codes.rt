@@ -54,7 +54,7 @@ fn heights_at(cells: &[Cell], at: &[usize; 8]) -> [Cell; 8]
 /// Returns the code of the first way to a neighbour of height `level` with one step fewer than
 /// `own`.
 /// Returns an outlet's code if there is none, which is so of no cell once the counts are the steps.
-/// An error is the lower count of a cell whose count is more than one above a neighbour's.
+/// An error is the least count that follows from a neighbour's, of a cell with a greater one.
 #[inline(always)]
 fn onward_code(
     cells: &[Cell],
@@ -71,16 +71,21 @@ fn onward_code(
     ensures lower { IfErr result (IsTooHigh cells.now steps.now at.now level own) }
 {
     let mut code = Code::outlet();
+    let mut least = own;
     for turn in 0..8 {
         let way = 7 - turn;
         let index = at[way];
         let count = steps[index].number() + 1;
-        if count <= own && cells[index].is_level_with(level) {
-            if count < own {
-                return Err(count);
-            }
+        // No branch: which neighbours are level is hard to guess.
+        let is_level = cells[index].is_level_with(level);
+        let next = if is_level { count } else { own };
+        least = least.min(next);
+        if is_level & (count == own) {
             code = Code::of_way(way);
         }
+    }
+    if least < own {
+        return Err(least);
     }
     Ok(code)
 }

@@ -3,82 +3,43 @@
 //! A spot is a place of the tile's window: the tile and a border of one cell around it. Of a search
 //! only soundness is proved: each lower count follows from another. A look at all spots that lowers
 //! none shows that the counts are settled.
-ghost use Rattle.std.specs.Prelude.{◌≡◌, ◌+◌, ◌<◌, ◌≤◌, ◌⊎◌, ◌↔◌, IsTrue, None, [], All, length, sum, OnOk, IfOk, IfSome};
+ghost use Rattle.std.specs.Prelude.{◌≡◌, ◌≢◌, ◌+◌, ◌<◌, ◌≤◌, ◌⊎◌, None, [], All, length, slice_index_or, sum, OnOk, IfOk, IfSome};
 ghost use Rattle.terrain.specs.Neighbours.{Touches};
 ghost use Rattle.terrain.specs.declared.place.Place.{Place};
-ghost use Rattle.tiles.specs.Windows.{area_of, spot_index, IsSpot, IsInner};
-ghost use Rattle.drain.specs.Search.{AreAtMostNoCount, AreSettled, height_on, count_on, IsLeastAlong, IsLowering, IsNear, IsPulled, IsSearched, IsSpread};
+ghost use Rattle.tiles.specs.Windows.{area_of, IsSpot, IsInner};
+ghost use Rattle.drain.specs.Search.{AreAtMostNoCount, AreSettled, height_on, count_on, IsLowering, IsNear, IsPulled, IsSearched, IsSpread};
 
 use std::alloc::{AllocError, Global};
-use terrain::{Cell, Place};
+use terrain::{Cell, Place, place_on};
 use tiles::Window;
 
-/// Returns whether two spots have one filled height, or both have no data.
+/// Returns a spot's count plus 1 if the spot has height `level`, else `bound`.
 #[inline(always)]
-fn is_level(window: &Window<Cell>, spot: Place, other: Place) -> bool
-    requires spot { IsSpot window.now.bounds spot }
-    requires other { IsSpot window.now.bounds other }
-    ensures { IsTrue result ↔ (height_on window.now spot ≡ height_on window.now other) }
+fn count_beside(cells: &[Cell], counts: &[u32], index: usize, level: Cell, bound: u32) -> u32
+    requires cell { index < length cells.now }
+    requires count { index < length counts.now }
+    requires few { AreAtMostNoCount counts.now }
+    ensures { ((slice_index_or cells.now index None ≡ level)
+        × (result ≡ slice_index_or counts.now index 0 + 1))
+        ⊎ ((slice_index_or cells.now index None ≢ level) × (result ≡ bound)) }
 {
-    window.values[window.index(spot)].is_level_with(window.values[window.index(other)])
-}
-
-/// Returns a spot's count plus 1, at most `bound`, if the spot has height `level`.
-/// Returns `bound` for a spot of another height.
-#[inline(always)]
-fn lesser(window: &Window<Cell>, counts: &[u32], spot: Place, level: Cell, bound: u32) -> u32
-    requires size { length counts.now ≡ area_of window.now.bounds }
-    requires counts { AreAtMostNoCount counts.now }
-    requires spot { IsSpot window.now.bounds spot }
-    ensures bound { result ≤ bound }
-    ensures each { height_on window.now spot ≡ level →
-        result ≤ count_on window.now.bounds counts.now spot + 1 }
-    ensures one { (result ≡ bound) ⊎ ((height_on window.now spot ≡ level)
-        × (result ≡ count_on window.now.bounds counts.now spot + 1) × (result < bound)) }
-{
-    let index = window.index(spot);
+    // No branch: which spots are level is hard to guess.
     let next = counts[index] + 1;
-    if next >= bound {
-        return bound;
-    }
-    if window.values[index].is_level_with(level) {
+    if cells[index].is_level_with(level) {
         next
     } else {
         bound
     }
 }
 
-/// Returns 1 plus the least count among spots of height `level`, at most `bound`.
-/// The spots looked at are `from` and the next two of the row of `from`.
-#[inline(always)]
-#[tactic(auto, using(crate::proofs::Least::least_of_none))]
-fn least_of_three(
-    window: &Window<Cell>,
-    counts: &[u32],
-    from: Place,
-    level: Cell,
-    bound: u32,
-) -> u32
-    requires size { length counts.now ≡ area_of window.now.bounds }
-    requires counts { AreAtMostNoCount counts.now }
-    requires from { (from.row < window.now.bounds.rows + 2)
-        × (from.col + 2 < window.now.bounds.cols + 2) }
-    ensures { IsLeastAlong window.now counts.now from (from.col + 3) level bound result }
-{
-    let mut least = bound;
-    for col in from.col..from.col + 3 {
-        least = lesser(window, counts, Place { row: from.row, col }, level, least);
-    }
-    least
-}
-
-/// Returns 1 plus the least count at and around `spot`, at most `bound`.
+/// Returns 1 plus the least count around `spot`, at most `bound`.
 /// Spots of another height than `spot` are left out.
 #[inline(always)]
 fn least_around(window: &Window<Cell>, counts: &[u32], spot: Place, bound: u32) -> u32
     requires size { length counts.now ≡ area_of window.now.bounds }
     requires counts { AreAtMostNoCount counts.now }
     requires spot { IsInner window.now.bounds spot }
+    requires own { bound ≤ count_on window.now.bounds counts.now spot }
     ensures bound { result ≤ bound }
     ensures each { (r : Place) → Touches spot r →
         height_on window.now r ≡ height_on window.now spot →
@@ -87,63 +48,46 @@ fn least_around(window: &Window<Cell>, counts: &[u32], spot: Place, bound: u32) 
         × (height_on window.now r ≡ height_on window.now spot)
         × (result ≡ count_on window.now.bounds counts.now r + 1) × (result < bound)) }
 {
-    let level = window.values[window.index(spot)];
-    let row = spot.row;
-    let col = spot.col - 1;
-    let north = least_of_three(window, counts, Place { row: row - 1, col }, level, bound);
-    let here = least_of_three(window, counts, Place { row, col }, level, north);
-    least_of_three(window, counts, Place { row: row + 1, col }, level, here)
+    let cells: &[Cell] = &window.values;
+    let level = cells[window.index(spot)];
+    let at = window.around(spot);
+    let mut least = bound;
+    for way in 0..8 {
+        least = least.min(count_beside(cells, counts, at[way], level, bound));
+    }
+    least
 }
 
-/// Lowers the count of `to` to at most that of `from` plus 1, if equally high.
-/// Appends `to` to `reached`, if `to` lies in the tile and its count falls.
+/// Lowers the count of the spot on `way` from `from` to at most `next`, if equally high.
+/// `next` is the count of `from` plus 1.
+/// Appends the spot to `reached`, if it lies in the tile and its count falls.
 #[inline(always)]
 fn reach(
     window: &Window<Cell>,
     counts: &mut [u32],
     reached: &mut Vec<Place>,
     from: Place,
-    to: Place,
+    way: usize,
+    next: u32,
 ) -> Result<(), AllocError>
     requires size { length counts.old ≡ area_of window.now.bounds }
-    requires counts { AreAtMostNoCount counts.old }
-    requires from { IsSpot window.now.bounds from }
-    requires to { IsSpot window.now.bounds to × Touches from to }
-    ensures { OnOk result (IsLowering window.now
+    requires from { IsInner window.now.bounds from }
+    requires way { way < 8 }
+    requires next { next ≡ count_on window.now.bounds counts.old from + 1 }
+    ensures lowering { OnOk result (IsLowering window.now
         counts.old counts.new reached.old.items reached.new.items) }
+    ensures kept { OnOk result (count_on window.now.bounds counts.new from
+        ≡ count_on window.now.bounds counts.old from) }
 {
-    let next = counts[window.index(from)] + 1;
-    let index = window.index(to);
-    if next < counts[index] && is_level(window, from, to) {
-        if window.is_inner(to) {
-            reached.push(to)?;
+    let cells: &[Cell] = &window.values;
+    let index = window.around(from)[way];
+    if next < counts[index] && cells[index].is_level_with(cells[window.index(from)]) {
+        if let Some(to) = place_on(way, from) {
+            if window.is_inner(to) {
+                reached.push(to)?;
+            }
         }
         counts[index] = next;
-    }
-    Ok(())
-}
-
-/// Lowers counts in `row` around `spot` to at most that of `spot` plus 1.
-/// Spots of another height than `spot` are left out.
-/// Queues the spots of the tile whose counts fall.
-#[inline(always)]
-#[tactic(auto, using(crate::proofs::Spreading::spread_counts))]
-fn spread_along(
-    window: &Window<Cell>,
-    counts: &mut [u32],
-    reached: &mut Vec<Place>,
-    spot: Place,
-    row: u32,
-) -> Result<(), AllocError>
-    requires size { length counts.old ≡ area_of window.now.bounds }
-    requires counts { AreAtMostNoCount counts.old }
-    requires spot { IsInner window.now.bounds spot }
-    requires row { (row ≤ spot.row + 1) × (spot.row ≤ row + 1) }
-    ensures { OnOk result (IsLowering window.now
-        counts.old counts.new reached.old.items reached.new.items) }
-{
-    for col in spot.col - 1..spot.col + 2 {
-        reach(window, counts, reached, spot, Place { row, col })?;
     }
     Ok(())
 }
@@ -164,8 +108,9 @@ fn spread(
     ensures { OnOk result (IsLowering window.now
         counts.old counts.new reached.old.items reached.new.items) }
 {
-    for row in spot.row - 1..spot.row + 2 {
-        spread_along(window, counts, reached, spot, row)?;
+    let next = counts[window.index(spot)] + 1;
+    for way in 0..8 {
+        reach(window, counts, reached, spot, way, next)?;
     }
     Ok(())
 }

@@ -4,8 +4,7 @@
 //! row or column, odd ways, of parity 1, along a diagonal. `steepest` finds the steepest way down
 //! by exact squares of drops. `onward` finds a way over the flat. Of equally good ways, both return
 //! the first.
-ghost use Rattle.std.specs.Prelude.{◌≡◌, ◌*◌, ◌<◌, ◌≤◌, ◌⊎◌, ℕ, IfSome, IsTrue, Some, None, option_map, slice_index_or, position};
-ghost use Rattle.std.specs.Bool.{MatchBool};
+ghost use Rattle.std.specs.Prelude.{◌≡◌, ◌*◌, ◌<◌, ◌≤◌, ℕ, IfSome, IsTrue, Some, None, option_map, slice_index_or, position};
 ghost use Rattle.std.specs.List.{list_any};
 ghost use Rattle.std.specs.Option.{option_zip};
 ghost use Rattle.terrain.specs.Raster.{IsHeight, greatest_drop};
@@ -78,19 +77,6 @@ fn square(drop: u64) -> u128
     drop as u128 * drop as u128
 }
 
-/// Returns whether a fall of weight `weight` on `way` goes before one of the other parity.
-/// No square is twice another, so two weights are equal only if both are 0. To go by the lesser way
-/// then spares the proof of that.
-#[inline(always)]
-fn goes_before(weight: u128, way: usize, other_weight: u128, other_way: usize) -> bool
-    ensures { MatchBool result
-        ((other_weight ≤ weight) × ((way ≤ other_way) ⊎ (other_weight < weight)))
-        ((weight ≤ other_weight) × ((other_way ≤ way) ⊎ (weight < other_weight))) }
-{
-    // No branch: which parity falls more is hard to guess.
-    (weight > other_weight) | ((weight == other_weight) & (way < other_way))
-}
-
 /// Returns the first of the steepest ways down, `None` if no way leads down.
 #[inline(always)]
 pub(crate) fn steepest(level: Height, heights: &[Cell; 8]) -> Option<usize>
@@ -102,12 +88,13 @@ pub(crate) fn steepest(level: Height, heights: &[Cell; 8]) -> Option<usize>
     let across = greatest_fall(level, heights, 1);
     let side = square(straight.drop);
     let corner = square(across.drop);
-    let fall = if goes_before(2 * side, straight.way, corner, across.way) {
-        straight
+    // No square is twice another: two equal weights are 0.
+    let way = if 2 * side > corner {
+        straight.way
     } else {
-        across
+        across.way
     };
-    (fall.drop > 0).then_some(fall.way)
+    (straight.drop + across.drop > 0).then_some(way)
 }
 
 #[inline(always)]

@@ -1,30 +1,23 @@
-use Rattle.std.proofs.Common.{◌≡◌, ◌+◌, ◌*◌, ℕ, length, ap, arith}
-use Rattle.std.proofs.lemmas.List.{take_at}
-use Rattle.drain.proofs.Begun.{begun_shown}
+use Rattle.std.proofs.Common.{◌≡◌, ℕ, ◌+◌, List, get_or, rules, ap, ◌∙◌, arith}
+use Rattle.std.proofs.lemmas.List.{get_or-replicate}
+use Rattle.drainage.specs.StepCounts.{no_count}
+use Rattle.tiles.specs.Windows.{area_of}
+use Rattle.drain.proofs.Begun.{begun_none, begun_shown, heights_shown}
 use Rattle.drain.proofs.beginning.begun_counts.Goals as goal
+
+pub loop-row-init : goal.loop-row-init
+loop-row-init c =
+    let same = c.in_ok-counts.ensures.items_if_clones_equal (λ n is. is) in
+    begun_none (omega (arith, c.in_ok-counts.ensures.len, c.in_ok-counts.counts.ok.0)) (λ s has. has.0)
+    (λ k below. ap (λ (xs : List ℕ). get_or xs k 0) same
+    ∙ get_or-replicate _ k _ 0 (omega (arith, below)))
+
+pub begin_along-requires-clause-heights : goal.begin_along-requires-clause-heights
+begin_along-requires-clause-heights c =
+    heights_shown c.args.grid.now.terrain c.args.window.now c.requires.lawful (search rules) c.requires.shown
 
 pub begin_at_sinks-requires : goal.begin_at_sinks-requires
 begin_at_sinks-requires c =
-    let b = c.args.window.now.bounds in
-    let inv = c.loop-row.invariant in
-    let last : c.loop-row.row ≡ b.rows + 2 = omega arith in
-    let end = ap (λ (n : ℕ). n * (b.cols + 2)) last in
-    rw c.deref_mut.ensures.value
-    (begun_shown c.args.grid.now.terrain c.args.window.now c.requires (record {
-      size = omega (arith, inv.size, end);
-      each = λ s spot below. inv.each s spot (omega (arith, below, end));
-    }))
-
-pub returns : goal.returns
-returns c =
-    let b = c.args.window.now.bounds in
-    let last : c.loop-row.row ≡ b.rows + 2 = omega arith in
-    let end = ap (λ (n : ℕ). n * (b.cols + 2)) last in
-    let size : length c.begin_at_sinks.new.counts ≡ c.loop-row.counts.len = omega (
-      arith,
-      c.begin_at_sinks.ensures.size,
-      c.loop-row.counts.ok.0,
-      c.loop-row.invariant.size,
-      end,
-    ) in
-    rw (take_at c.begin_at_sinks.new.counts _ c.loop-row.counts.len size) c.begin_at_sinks.ensures
+    let last : c.loop-row.row ≡ c.args.window.now.bounds.rows + 1 = omega arith in
+    rw (c.deref_mut-2.ensures.value)
+    (begun_shown c.args.grid.now.terrain c.args.window.now c.requires.shown (rw last at c.loop-row.invariant))

@@ -1,17 +1,18 @@
-use Rattle.std.proofs.Common.{◌≡◌, ◌+◌, ◌-◌, ◌≤◌, ◌<◌, ℕ, None, Some, get_or, ap, sym, ◌∙◌, arith}
-use Rattle.std.proofs.lemmas.Bool.{false≢true}
+use Rattle.std.proofs.Common.{◌≡◌, ◌+◌, ◌-◌, ◌≤◌, ◌<◌, ◌⊎◌, ℕ, None, Some, get_or, inl, inr, ap, sym, ◌∙◌, arith}
+use Rattle.std.proofs.lemmas.Bool.{cases_lt, eq-eqb, eqb-true, false≢true}
 use Rattle.std.proofs.lemmas.List.{get_or_default}
 use Rattle.drain.specs.Search.{stored}
-use Rattle.drain.specs.Codes.{IsOnwardWay, level_at, stored_at}
+use Rattle.drain.specs.Codes.{IsOnwardWay, IsTooHigh, level_at, stored_at}
 use Rattle.drain.proofs.Onward.{first_here, first_kept, more_ways}
 use Rattle.drain.proofs.codes.onward_code.Goals as goal
-use Rattle.drain.proofs.codes.onward_code.Goals.{then-count-own+then-is_level_with+else-count-own-2, else-count-own, else-count-own-via-then-count-own+else-is_level_with, else-count-own-via-else-count-own}
+use Rattle.drain.proofs.codes.onward_code.Goals.{then-is_level, else-is_level, then-is_level-count, else-is_level-count}
 
 pub loop-turn-preserved : goal.loop-turn-preserved
 loop-turn-preserved c =
     let cells = c.args.cells.now in
     let steps = c.args.steps.now in
     let at = c.args.at.now in
+    let level = c.args.level in
     let own = c.args.own in
     let turn = c.loop-turn.turn in
     let inv = c.loop-turn.invariant in
@@ -21,40 +22,58 @@ loop-turn-preserved c =
     ∙ ap stored (c.index-steps-index.is
     ∙ get_or_default steps (get_or at (7 - turn) 0) c.index-steps-index.result None
     (c.requires.steps (7 - turn) below)) in
-    let is = IsOnwardWay cells steps at c.args.level own in
-    let still = more_ways (λ (way : ℕ). level_at cells at way ≡ c.args.level → own ≤ stored_at steps at way + 1)
-    turn left inv.still in
-    let kept = first_kept is turn inv.found left inv.first in
-    elim c.if-count-own.branch [
-      | then-count-own+then-is_level_with+else-count-own-2 w ↦
-          (let cell = w.index-cells-index.is ∙ get_or_default cells (get_or at (7 - turn) 0)
-          w.index-cells-index.result None (c.requires.cells (7 - turn) below) in
-          record {
-            still = still (λ _. omega (arith, w.if-count-own-2.false, count));
-            found = Some (7 - turn);
-            code = w.code-is ∙ w.of_way-code.ensures;
-            first = first_here is turn left (
-              sym cell ∙ w.is_level_with.ensures.0 w.if-is_level_with.true,
-              omega (arith, w.if-count-own.true, w.if-count-own-2.false, count),
-            );
-          })
-      | else-count-own w ↦ elim w.else-count-own.branch [
-        | else-count-own-via-then-count-own+else-is_level_with v ↦
-            (let cell = v.index-cells-index.is ∙ get_or_default cells (get_or at (7 - turn) 0)
-            v.index-cells-index.result None (c.requires.cells (7 - turn) below) in
-            let off = λ (high : level_at cells at (7 - turn) ≡ c.args.level).
-            false≢true (sym v.if-is_level_with.false ∙ v.is_level_with.ensures.1 (cell ∙ high)) in
-            record {
-              still = still (λ high. absurd (off high));
+    let cell : c.index-cells-index.result ≡ level_at cells at (7 - turn) = c.index-cells-index.is
+    ∙ get_or_default cells (get_or at (7 - turn) 0) c.index-cells-index.result None
+    (c.requires.cells (7 - turn) below) in
+    let is = IsOnwardWay cells steps at level own in
+    let least = more_ways (λ (way : ℕ). level_at cells at way ≡ level → c.min-least.result ≤ stored_at steps at way + 1)
+    turn left in
+    elim c.if-is_level.branch [
+      | then-is_level w ↦
+          (let high : level_at cells at (7 - turn) ≡ level =
+          sym cell ∙ c.is_level_with-is_level.ensures.0 w.if-is_level.true in
+          let few : c.min-least.result ≤ own = omega (arith, inv.few, c.min-least.ensures, w.next-is) in
+          let each = least (λ way past small on. omega (arith, inv.each way past small on, c.min-least.ensures, w.next-is))
+          (λ _. omega (arith, c.min-least.ensures, w.next-is, count)) in
+          let one : (c.min-least.result ≡ own) ⊎ IsTooHigh cells steps at level own c.min-least.result =
+          elim (cases_lt (stored_at steps at (7 - turn) + 1) c.loop-turn.least) [
+            | inl less ↦ (let is : c.min-least.result ≡ stored_at steps at (7 - turn) + 1 = omega (arith, c.min-least.ensures, w.next-is, count, less) in
+                inr (omega (arith, is, less, inv.few), 7 - turn, below, high, is))
+            | inr more ↦ (let is : c.min-least.result ≡ c.loop-turn.least = omega (arith, c.min-least.ensures, w.next-is, count, more) in
+                rw is inv.one)
+          ] in
+          elim c.if-is_level-count.branch [
+            | then-is_level-count v ↦ record {
+              few = few;
+              each = each;
+              one = one;
+              found = Some (7 - turn);
+              code = v.code-is ∙ v.of_way-code.ensures;
+              first = first_here is turn left (high, omega (arith, eqb-true _ _ (rw w.if-is_level.true at v.if-is_level-count.true), count));
+            }
+            | else-is_level-count v ↦ record {
+              few = few;
+              each = each;
+              one = one;
               found = inv.found;
-              code = w.code-is ∙ inv.code;
-              first = kept (λ on. off on.0);
+              code = v.code-is ∙ inv.code;
+              first = first_kept is turn inv.found left inv.first (λ on. false≢true (sym v.if-is_level-count.false ∙ rw w.if-is_level.true (eq-eqb _ _ (omega (arith, on.1, count)))));
+            }
+          ])
+      | else-is_level w ↦
+          (let off = λ (high : level_at cells at (7 - turn) ≡ level).
+          false≢true (sym w.if-is_level.false ∙ c.is_level_with-is_level.ensures.1 (cell ∙ high)) in
+          let is_least : c.min-least.result ≡ c.loop-turn.least = omega (arith, inv.few, c.min-least.ensures, w.next-is) in
+          elim c.if-is_level-count.branch [
+            | then-is_level-count v ↦ absurd (false≢true (rw w.if-is_level.false at v.if-is_level-count.true))
+            | else-is_level-count v ↦ rw is_least (record {
+              few = inv.few;
+              each = more_ways (λ (way : ℕ). level_at cells at way ≡ level → c.loop-turn.least ≤ stored_at steps at way + 1)
+                  turn left inv.each (λ high. absurd (off high));
+              one = inv.one;
+              found = inv.found;
+              code = v.code-is ∙ inv.code;
+              first = first_kept is turn inv.found left inv.first (λ on. off on.0);
             })
-        | else-count-own-via-else-count-own v ↦ record {
-          still = still (λ _. omega (arith, v.if-count-own.false, count));
-          found = inv.found;
-          code = w.code-is ∙ inv.code;
-          first = kept (λ on. omega (arith, v.if-count-own.false, count, on.1));
-        }
-      ]
+          ])
     ]

@@ -4,8 +4,8 @@ use Rattle.drain.proofs.Begun.{begun_tile}
 use Rattle.drain.proofs.Spreading.{spread-length}
 use Rattle.drain.proofs.first.FirstRoundWork.run.Goals as goal
 
-pub begun_counts-requires : goal.begun_counts-requires
-begun_counts-requires c =
+pub begun_counts-requires-clause-shown : goal.begun_counts-requires-clause-shown
+begun_counts-requires-clause-shown c =
     rw (
       c.view-levels.ensures,
       c.cells.ensures.value,
