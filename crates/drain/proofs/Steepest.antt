@@ -1,7 +1,7 @@
 -- The steepest way has the greatest drop on the even ways, along a row or column, or that on the
 -- odd ways, the diagonals. The drop of greater weight decides, of equal ones the first. Ways are the
 -- directions, 0 to 7 in code order.
-use Rattle.std.proofs.Common.{◌≡◌, ℕ, zero, suc, ◌+◌, ◌*◌, ◌<◌, ◌≤◌, ◌/◌, ◌%◌, ◌⊎◌, inl, inr, eqb, ltb, Bool, length, get_or, List, Option, None, Some, fold, max, cond, true, false, ℤ, pos, negsuc, ◌-ℤ◌, ◌≤ℤ◌, ◌<ℤ◌, IfSome, unwrap_or, refl, sym, ap, ◌∙◌, arith}
+use Rattle.std.proofs.Common.{◌≡◌, ℕ, zero, suc, ◌+◌, ◌*◌, ◌<◌, ◌≤◌, ◌/◌, ◌%◌, inl, inr, eqb, ltb, Bool, length, get_or, List, Option, None, Some, fold, max, cond, true, false, ℤ, pos, negsuc, ◌-ℤ◌, ◌≤ℤ◌, ◌<ℤ◌, IfSome, unwrap_or, refl, sym, ap, ◌∙◌, arith}
 use Rattle.std.proofs.lemmas.Bool.{cases_eq, cases_lt, eq-eqb, eqb-true, ne_eqb, lt-ltb, le-ltb, cond-true, cond-false, false≢true}
 use Rattle.std.proofs.lemmas.List.Folds.{list_any_at}
 use Rattle.std.proofs.lemmas.List.Quantifiers.{position-Some}
@@ -117,10 +117,10 @@ root_of_two (suc n) a b few twice =
     elim (cases_eq a 0) [
       | inl none ↦ none
       | inr some ↦ (let none = root_of_two n half a (elim (cases_lt half a) [
-          | inl below ↦ omega (arith, few, below)
-          | inr above ↦ absurd (omega (arith, mul-le a a half half above above, mul-lt 0 0 a a (omega (arith, some)) (omega (arith, some)), less))
-        ]) less in
-        absurd (omega (arith, less, rw none at less, mul-lt 0 0 a a (omega (arith, some)) (omega (arith, some)))))
+        | inl below ↦ omega (arith, few, below)
+        | inr above ↦ absurd (omega (arith, mul-le a a half half above above, mul-lt 0 0 a a (omega (arith, some)) (omega (arith, some)), less))
+      ]) less in
+          absurd (omega (arith, less, rw none at less, mul-lt 0 0 a a (omega (arith, some)) (omega (arith, some)))))
     ]
   where
     square_of : (h r : ℕ) → (h + h + r) * (h + h + r) ≡ 4 * (h * h) + 4 * (h * r) + r * r

@@ -2,7 +2,7 @@
 -- lowers them. A spot is a place in the window. A count is the fewest moves at one filled height,
 -- found so far, from a cell to one that drains at once, or unknown.
 -- Private.
-use Rattle.std.specs.Prelude.{◌≡◌, ◌≢◌, ℕ, ◌+◌, ◌<◌, ◌≤◌, ◌⊎◌, ℤ, List, All, map, sum, length, Option, None, [], slice_index_or, slice_set, unwrap_or}
+use Rattle.std.specs.Prelude.{◌≡◌, ◌≢◌, ℕ, ◌+◌, ◌<◌, ◌≤◌, ℤ, List, All, map, sum, length, Option, None, [], slice_index_or, slice_set, unwrap_or}
 use Rattle.terrain.specs.Raster.{Terrain}
 use Rattle.terrain.specs.Neighbours.{entry_or, Touches}
 use Rattle.terrain.specs.declared.place.Place.{Place}

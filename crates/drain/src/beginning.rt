@@ -108,11 +108,8 @@ pub(crate) fn begun_counts(
         (DrainsAtOnce grid.now.terrain) counts.items) }
 {
     let bounds = window.bounds;
-    let mut counts = vec![
-        in alloc;
-        NO_COUNT;
-        (bounds.rows as usize + 2) * (bounds.cols as usize + 2)
-    ]?;
+    let mut counts = vec![in alloc; NO_COUNT; (bounds.rows as usize + 2)
+        * (bounds.cols as usize + 2)]?;
     for row in 1..bounds.rows + 1 {
         begin_along(window, row, &mut counts);
     }

@@ -6,7 +6,6 @@ mod progress;
 use ascii_grid::Counted;
 use progress::ProgressReport;
 use relief::run_words_reported;
-use std::alloc::Global;
 use std::env;
 use std::io::{self, ErrorKind, Write};
 use std::process::ExitCode;
@@ -15,11 +14,6 @@ use std::rt::Env;
 const WORDS_REFUSED: u8 = 1;
 
 const NO_MEMORY: u8 = 3;
-
-/// The length of the list that [`keep_freed_lists`] frees: 16 MiB and 128 KiB.
-/// Lists of up to that length are then kept, among them 4 million counts. With 32 MiB, the most
-/// that glibc allows, four workers' `maps` of 16 million cells would peak 4 bytes a cell higher.
-const LONGEST_KEPT: usize = (1 << 24) + (1 << 17);
 
 /// Returns the exit status for unreadable words. Writes a line unless memory was refused.
 fn refuse_words(error: &io::Error, errors: &mut impl Write) -> u8 {
@@ -35,14 +29,7 @@ fn read_words(rt: &(impl Env + AllocGlobal)) -> io::Result<Vec<String>> {
     Ok(words)
 }
 
-/// Frees one long list, after which glibc keeps the memory of freed shorter lists.
-/// A map of millions of cells then touches a third fewer new pages of memory.
-fn keep_freed_lists(alloc: Global) {
-    drop(Vec::<u8>::with_capacity(alloc, LONGEST_KEPT));
-}
-
 fn main(rt: HostRuntime) -> ExitCode {
-    keep_freed_lists(rt.alloc());
     let words = match read_words(&rt) {
         Ok(words) => words,
         Err(error) => return ExitCode::from(refuse_words(&error, &mut rt.stderr())),

@@ -1,4 +1,4 @@
-use Rattle.std.proofs.Common.{◌≡◌, ◌+◌, ◌/◌, ◌^◌, ℕ, ◌<◌, None, get_or, inl, inr, to_z-of_z, ◌∙◌, arith}
+use Rattle.std.proofs.Common.{◌/◌, ◌^◌, None, get_or, inl, inr, to_z-of_z, ◌∙◌, arith}
 use Rattle.std.proofs.lemmas.Bool.{cases_eq, eq-eqb, ne_eqb}
 use Rattle.std.proofs.lemmas.List.{get_or_default}
 use Rattle.std.proofs.lemmas.Nat.Bits.{bit_at-lt, bit_at_or}

@@ -1,7 +1,5 @@
 use Rattle.std.proofs.Common.{◌≡◌, ℕ, ◌+◌, List, get_or, rules, ap, ◌∙◌, arith}
 use Rattle.std.proofs.lemmas.List.{get_or-replicate}
-use Rattle.drainage.specs.StepCounts.{no_count}
-use Rattle.tiles.specs.Windows.{area_of}
 use Rattle.drain.proofs.Begun.{begun_none, begun_shown, heights_shown}
 use Rattle.drain.proofs.beginning.begun_counts.Goals as goal
 

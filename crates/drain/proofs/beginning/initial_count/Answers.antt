@@ -1,4 +1,4 @@
-use Rattle.std.proofs.Common.{rules, ◌≡◌, ◌<◌, ◌∙◌, length, get_or, None, Some, is_some, true, inl, inr, IfSome, unwrap_or, ap, refl, subst, sym, to_z-of_z, arith}
+use Rattle.std.proofs.Common.{rules, ◌≡◌, ◌<◌, ◌∙◌, length, get_or, None, inl, inr, IfSome, unwrap_or, ap, refl, subst, sym, to_z-of_z, arith}
 use mir.Val.{SFits}
 use Rattle.terrain.proofs.Heights.{height_width}
 use Rattle.terrain.specs.StoredCells.{no_data}

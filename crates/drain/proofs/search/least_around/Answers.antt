@@ -1,8 +1,8 @@
-use Rattle.std.proofs.Common.{rules, ◌≡◌, ℕ, ◌+◌, ◌<◌, ◌≤◌, None, get_or, length, inl, inr, ap, sym, ◌∙◌, arith}
+use Rattle.std.proofs.Common.{rules, ◌≡◌, ◌<◌, None, get_or, length, inl, inr, ap, sym, ◌∙◌, arith}
 use Rattle.std.proofs.lemmas.Bool.{cases_eq, cases_lt}
 use Rattle.std.proofs.lemmas.List.{get_or_default}
 use Rattle.terrain.proofs.Places.{cases_place}
-use Rattle.drain.specs.Search.{count_on, height_on}
+use Rattle.drain.specs.Search.{height_on}
 use Rattle.drain.proofs.Beside.{beside, way_beside}
 use Rattle.drain.proofs.search.least_around.Goals as goal
 
@@ -18,8 +18,13 @@ loop-way-preserved c =
           | inr ne ↦ omega (arith, c.min-least.ensures, inv.each k (omega (arith, below, ne)) same)
         ];
         one = elim (cases_lt c.count_beside.result c.loop-way.least) [
-          | inl less ↦ inr (way, c.loop-way-test.true, level.0, omega (arith, c.min-least.ensures, level.1, less),
-              omega (arith, c.min-least.ensures, less, inv.low))
+          | inl less ↦ inr (
+            way,
+            c.loop-way-test.true,
+            level.0,
+            omega (arith, c.min-least.ensures, level.1, less),
+            omega (arith, c.min-least.ensures, less, inv.low),
+          )
           | inr more ↦ (let same : c.min-least.result ≡ c.loop-way.least = omega (arith, c.min-least.ensures, more) in
               rw same inv.one)
         ];

@@ -33,8 +33,10 @@ returns-after-place_on-clause-lowering c =
           same_Some v.in-Some.to q.0 (sym v.in-Some.is ∙ c.place_on.ensures ∙ q.1.on) in
           rw c.requires.next (lowering_set (spot_index w.bounds c.args.from) _ _ _ refl at
           (spot_from_inner c.requires.from) (q.1.spot, q.1.touches) level (rw c.requires.next at c.if-next-counts.true)
-          (inl (rw to at (v.is_inner.ensures.0 v.if-is_inner.true),
-          ap (λ (v : Vec Place Global). v.items) v.reached-is ∙ rw to at v.in_ok-push.ensures.items))))
+          (inl (
+            rw to at (v.is_inner.ensures.0 v.if-is_inner.true),
+            ap (λ (v : Vec Place Global). v.items) v.reached-is ∙ rw to at v.in_ok-push.ensures.items,
+          ))))
       | in-Some+else-is_inner v ↦ rw c.requires.next (lowering_set (spot_index w.bounds c.args.from) _ _ _ refl at
           (spot_from_inner c.requires.from) (q.1.spot, q.1.touches) level (rw c.requires.next at c.if-next-counts.true)
           (inr (ap (λ (v : Vec Place Global). v.items) v.reached-is)))

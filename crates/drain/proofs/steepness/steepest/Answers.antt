@@ -24,9 +24,20 @@ returns c =
           (s.drop + a.drop) (omega (arith, straight.drop, across.drop)))
       | else-side-corner w ↦ rw w.way'-is (steepest_is across.way straight.way refl
           (omega (arith, side, corner, w.if-side-corner.false))
-          (λ same. (let twice : 2 * (s.drop * s.drop) ≡ a.drop * a.drop = omega (arith, side, corner, same,
-              c.square-side.ensures.value, c.square-corner.ensures.value) in
-              omega (arith, corner, c.square-corner.ensures.value, twice,
-              ap (λ n. n * n) (root_of_two s.drop s.drop a.drop (omega arith) twice))))
+          (λ same. (let twice : 2 * (s.drop * s.drop) ≡ a.drop * a.drop = omega (
+            arith,
+            side,
+            corner,
+            same,
+            c.square-side.ensures.value,
+            c.square-corner.ensures.value,
+          ) in
+          omega (
+            arith,
+            corner,
+            c.square-corner.ensures.value,
+            twice,
+            ap (λ n. n * n) (root_of_two s.drop s.drop a.drop (omega arith) twice),
+          )))
           (s.drop + a.drop) (omega (arith, straight.drop, across.drop)))
     ])
