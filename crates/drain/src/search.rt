@@ -5,8 +5,9 @@
 //! none shows that the counts are settled.
 ghost use Rattle.std.specs.Prelude.{◌≡◌, ◌≢◌, ◌+◌, ◌<◌, ◌≤◌, ◌⊎◌, None, [], All, length, slice_index_or, sum, OnOk, IfOk, IfSome};
 ghost use Rattle.terrain.specs.Neighbours.{Touches};
+ghost use Rattle.terrain.specs.Ways.{around_index};
 ghost use Rattle.terrain.specs.declared.place.Place.{Place};
-ghost use Rattle.tiles.specs.Windows.{area_of, IsSpot, IsInner};
+ghost use Rattle.tiles.specs.Windows.{area_of, spot_index, IsSpot, IsInner};
 ghost use Rattle.drain.specs.Search.{AreAtMostNoCount, AreSettled, height_on, count_on, IsLowering, IsNear, IsPulled, IsSearched, IsSpread};
 
 use std::alloc::{AllocError, Global};
@@ -59,7 +60,7 @@ fn least_around(window: &Window<Cell>, counts: &[u32], spot: Place, bound: u32) 
 }
 
 /// Lowers the count of the spot on `way` from `from` to at most `next`, if equally high.
-/// `next` is the count of `from` plus 1.
+/// `index` is that spot's, and `next` the count of `from` plus 1.
 /// Appends the spot to `reached`, if it lies in the tile and its count falls.
 #[inline(always)]
 fn reach(
@@ -68,11 +69,15 @@ fn reach(
     reached: &mut Vec<Place>,
     from: Place,
     way: usize,
+    index: usize,
     next: u32,
 ) -> Result<(), AllocError>
     requires size { length counts.old ≡ area_of window.now.bounds }
     requires from { IsInner window.now.bounds from }
     requires way { way < 8 }
+    requires index { index ≡ slice_index_or (around_index (window.now.bounds.cols + 2)
+        (spot_index window.now.bounds from)) way 0 }
+    requires below { index < area_of window.now.bounds }
     requires next { next ≡ count_on window.now.bounds counts.old from + 1 }
     ensures lowering { OnOk result (IsLowering window.now
         counts.old counts.new reached.old.items reached.new.items) }
@@ -80,7 +85,6 @@ fn reach(
         ≡ count_on window.now.bounds counts.old from) }
 {
     let cells: &[Cell] = &window.values;
-    let index = window.around(from)[way];
     if next < counts[index] && cells[index].is_level_with(cells[window.index(from)]) {
         if let Some(to) = place_on(way, from) {
             if window.is_inner(to) {
@@ -108,9 +112,10 @@ fn spread(
     ensures { OnOk result (IsLowering window.now
         counts.old counts.new reached.old.items reached.new.items) }
 {
+    let at = window.around(spot);
     let next = counts[window.index(spot)] + 1;
     for way in 0..8 {
-        reach(window, counts, reached, spot, way, next)?;
+        reach(window, counts, reached, spot, way, at[way], next)?;
     }
     Ok(())
 }

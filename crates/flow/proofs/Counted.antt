@@ -7,19 +7,20 @@ use Rattle.std.proofs.Math.ListN.{length-map}
 use Rattle.std.proofs.lemmas.Option.{slice_get_within}
 use Rattle.std.proofs.lemmas.List.FromFn.{get_or-map-range_with_len, length-map-range_with_len}
 use Rattle.terrain.specs.declared.place.Place.{Place}
-use Rattle.tiles.specs.Cutting.{Cutting, IsInBounds, IsInTile, AreBounds, tile_count, cell_count, bounds_of, tile_entry, place_in, index_in}
+use Rattle.tiles.specs.Cutting.{Cutting, IsCutting, IsInBounds, IsInTile, AreBounds, tile_count, cell_count, bounds_of, tile_entry, place_in, index_in}
 use Rattle.tiles.proofs.Cut.{in_bounds, bounds_inside}
 use Rattle.tiles.proofs.TileOrder.{index_in_below, index_in-place_in, place_in-index_in, tile_entry-in}
-use Rattle.drainage.specs.Following.{Directed}
 use Rattle.flow.specs.Counts.{accumulation, IsValueAt}
 use Rattle.flow.specs.Streams.{AreStreams, AreSums, total}
-use Rattle.flow.specs.TileFlow.{Flow, IsTileExits, AreTileCounts}
+use Rattle.flow.specs.TileFlow.{Flow, IsTileExits, AreTileFlows}
 use Rattle.flow.specs.TileLinks.{AreTileCodes, links_by, weights_by, where_data}
 use Rattle.flow.specs.Whole.{IsGridFlow, directed_on}
-use Rattle.flow.specs.Inflows.{Inflows, AreInflows, listed_inflow}
-use Rattle.flow.specs.RimGraph.{AreFlowsOf}
+use Rattle.flow.specs.Inflows.{Inflows, listed_inflow}
+use Rattle.flow.specs.Links.{Links, AreLinks}
 use Rattle.flow.specs.Counting.{IsCounting, IsCountable, AreCountable, AreInflowWeights, AreCounts}
+use Rattle.tiles.specs.RimNumbers.{rim_number_count}
 use Rattle.flow.proofs.Coded.{IsCoded}
+use Rattle.flow.proofs.Linked.{flows_from}
 use Rattle.flow.proofs.InTile.{IsPiece, tile_streams, in_place}
 use Rattle.flow.proofs.Piece.{codes_from, AreLists, piece, few, weights_from, count_entry, match_data}
 use Rattle.flow.proofs.Reaching.{IsEnding, ending_of}
@@ -30,15 +31,19 @@ use Rattle.flow.proofs.Totals.{total_is, totals_add}
 pub weights_size : (cells : List (Option ℕ)) → length (weights_by cells) ≡ length cells
 weights_size cells = length-map cells (λ code. cond (is_some code) 1 0)
 
--- A map's flows, with counts, and the inflows found from them meet `IsCounting`.
-pub counting_of : {t : Cutting} {codes : List (Option ℕ)} {flows joined : List Flow} (inflows : Inflows) →
-    IsGridFlow t.cols t.rows codes → AreFlowsOf (directed_on t codes) t flows →
-    AreTileCounts (directed_on t codes) t flows → joined ≡ flows → ((d : Directed) → AreFlowsOf d t joined →
-    AreTileCounts d t joined → AreInflows d t inflows) → IsCounting t codes flows inflows
-counting_of {t} {codes} inflows grid are counts same entering = record {
+-- A map's flows, with counts, and the inflows of their links meet `IsCounting`.
+pub counting_of : {t : Cutting} {codes : List (Option ℕ)} {flows : List Flow} {l : Links} {inflows : Inflows} →
+    IsGridFlow t.cols t.rows codes → IsCutting t → AreTileFlows (directed_on t codes) t flows →
+    AreLinks (directed_on t codes) t l → inflows.cutting ≡ l.cutting → inflows.listed ≡ l.inflows →
+    length inflows.listed ≡ rim_number_count inflows.cutting → IsCounting t codes flows inflows
+counting_of grid lawful are links cutting listed size = record {
   grid = grid;
-  are_flows = are;
-  are_inflows = entering (directed_on t codes) (rw same are) (rw same counts);
+  are_flows = flows_from lawful grid.ends are;
+  are_inflows = record {
+    cutting = cutting ∙ links.cutting;
+    size = size ∙ ap rim_number_count (cutting ∙ links.cutting);
+    each = λ p within. rw (cutting, listed) (links.inflows p within);
+  };
 }
 
 module _ {t : Cutting} {codes : List (Option ℕ)} {flows : List Flow} {inflows : Inflows}

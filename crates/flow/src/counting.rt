@@ -1,8 +1,8 @@
 //! Counts for each cell the other cells whose flow paths contain it: [`accumulation`].
 //!
 //! One job for each tile finds the tile's flow: exits, and how many other cells' flow paths reach
-//! each cell inside the tile. `inflows` sums what enters each rim cell from other tiles. A second
-//! job for each tile finds accumulations.
+//! each cell inside the tile. [`RimLinks::join`] sums what enters each rim cell from other tiles. A
+//! second job for each tile finds accumulations.
 ghost use Rattle.std.proofs.Props.{props};
 ghost use Rattle.std.specs.Prelude.{◌≡◌, ◌+◌, ◌^◌, ◌<◌, ℕ, length, slice_index, IfOk};
 ghost use Rattle.tiles.specs.Cutting.{Cuts, IsInBounds, bounds_of, cell_count, tile_count};
@@ -16,7 +16,7 @@ ghost use Rattle.terrain.specs.declared.place.Place.{Place as AtPlace};
 
 use crate::flowing::flow_tiles;
 use crate::inflows::Inflows;
-use crate::rim_graph::RimGraph;
+use crate::links::RimLinks;
 use crate::streams::{totals_of_few, zeros};
 use crate::tile::TileFlow;
 use crate::tile_links::{TileLinks, count_where_data};
@@ -92,9 +92,10 @@ pub fn accumulation<R: Threads + Wait + Sync, G: Gate + Sync>(
         gate,
     };
     let flows = flow_tiles(&runner, d.codes(), tiling)?;
-    let rim_graph = RimGraph::of(alloc, tiling, &flows)?;
-    let inflows = Inflows::of_flows(alloc, tiling, &flows, &rim_graph)?;
-    drop(rim_graph);
+    let Ok(links) = RimLinks::join(alloc, tiling, &flows) else {
+        return Err(JobFault::Memory);
+    };
+    let inflows = links.into_inflows();
     runner.map_tiles(CountsInput {
         tiling,
         flows,

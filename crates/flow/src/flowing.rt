@@ -1,7 +1,8 @@
 //! Finds each tile's flow, or its exits alone, by one job for each tile.
-ghost use Rattle.std.specs.Prelude.{IfOk};
+ghost use Rattle.std.specs.Prelude.{IfOk, OnOk};
+ghost use Rattle.tiles.specs.Cutting.{IsCutting};
 ghost use Rattle.tile_jobs.specs.Fault.{RefusesWorkers};
-ghost use Rattle.flow.specs.TileFlow.{AreTileCounts};
+ghost use Rattle.flow.specs.TileFlow.{AreTileFlows};
 ghost use Rattle.flow.specs.RimGraph.{AreFlowsOf};
 ghost use Rattle.flow.specs.Whole.{IsGridFlow, directed_on};
 
@@ -77,9 +78,8 @@ pub(crate) fn flow_tiles<R: Threads + Wait + Sync, G: Gate + Sync>(
     tiling: &Tiling,
 ) -> Result<Vec<TileFlow>, JobFault>
     requires grid { IsGridFlow tiling.now.cols tiling.now.rows codes.now }
-    ensures flows { IfOk result (λ v. AreFlowsOf
-        (directed_on tiling.now codes.now) tiling.now v.items) }
-    ensures counts { IfOk result (λ v. AreTileCounts
+    ensures lawful { OnOk result (IsCutting tiling.now) }
+    ensures flows { IfOk result (λ v. AreTileFlows
         (directed_on tiling.now codes.now) tiling.now v.items) }
     ensures workers { RefusesWorkers runner.now.workers result }
 {

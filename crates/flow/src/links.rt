@@ -1,8 +1,9 @@
 //! Finds the inflow at each rim cell and the outlet of each exit: [`RimLinks`].
 //!
 //! For callers of [`tile_flow`](crate::tile_flow). Combines the modules `inflows` and `outlets`.
-ghost use Rattle.std.specs.Prelude.{◌≡◌, IfOk};
+ghost use Rattle.std.specs.Prelude.{◌≡◌, length, IfOk};
 ghost use Rattle.tiles.specs.Cutting.{IsWithin};
+ghost use Rattle.tiles.specs.RimNumbers.{rim_number_count};
 ghost use Rattle.drainage.specs.Drained.{AllFlowEnds};
 ghost use Rattle.drainage.specs.Following.{Directed};
 ghost use Rattle.flow.specs.TileFlow.{AreTileFlows};
@@ -76,6 +77,15 @@ impl<'a> RimLinks<'a> {
             inflows,
             outlets,
         })
+    }
+
+    /// Returns the inflows alone.
+    pub(crate) fn into_inflows(self) -> Inflows
+        ensures cutting { result.cutting ≡ self.entry.cutting }
+        ensures inflows { result.listed ≡ self.entry.inflows }
+        ensures size { length result.listed ≡ rim_number_count result.cutting }
+    {
+        self.inflows
     }
 
     /// Returns how many cells' flow paths enter `place` from another tile.

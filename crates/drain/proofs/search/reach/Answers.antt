@@ -1,4 +1,4 @@
-use Rattle.std.proofs.Common.{rules, Vec, Global, ℕ, List, None, get_or, inl, inr, ap, ◌+◌, ◌∙◌, sym, refl, ◌≡◌}
+use Rattle.std.proofs.Common.{rules, Vec, Global, None, inl, inr, ap, ◌+◌, ◌∙◌, sym, refl, ◌≡◌}
 use Rattle.std.proofs.lemmas.List.{get_or_default, get_or-set_other}
 use Rattle.std.proofs.lemmas.Option.{same_Some}
 use Rattle.terrain.specs.declared.place.Place.{Place}
@@ -18,7 +18,7 @@ returns-after-place_on-clause-lowering c =
     let w = c.args.window.now in
     let cells = c.deref-cells.result.now in
     let q = beside w.bounds c.args.from c.requires.from c.args.way c.requires.way in
-    let at = ap (λ (l : List ℕ). get_or l c.args.way 0) c.around.ensures.value ∙ q.1.index in
+    let at = c.requires.index ∙ q.1.index in
     let own : c.index-cells-index-then-next-counts.result ≡ height_on w c.args.from =
     rw (c.deref-cells.ensures.value, c.index.ensures.value) at (c.index-cells-index-then-next-counts.is
     ∙ get_or_default cells c.index.result c.index-cells-index-then-next-counts.result None (search rules)) in
@@ -50,6 +50,6 @@ pub returns-after-place_on-clause-kept : goal.returns-after-place_on-clause-kept
 returns-after-place_on-clause-kept c =
     let b = c.args.window.now.bounds in
     let q = beside b c.args.from c.requires.from c.args.way c.requires.way in
-    let at = ap (λ (l : List ℕ). get_or l c.args.way 0) c.around.ensures.value ∙ q.1.index in
+    let at = c.requires.index ∙ q.1.index in
     get_or-set_other c.args.counts.now _ (spot_index b c.args.from) c.args.next 0 (λ same. q.1.apart
     (index_injective (b.cols + 2) c.args.from q.0 (spot_from_inner c.requires.from).1 q.1.spot.1 (same ∙ at)))

@@ -6,17 +6,6 @@ use Rattle.flow.proofs.flowing.flow_tiles.Goals as goal
 
 pub returns-clause-flows : goal.returns-clause-flows
 returns-clause-flows g c =
-    let t = c.args.tiling.now in
-    let d = directed_on t c.args.codes.now in
-    jobs_gave (IsTileFlow d t) _ _ c.tiles.ensures.value (λ outs count each. record {
-      cutting = c.tiles.ensures.lawful;
-      ends = c.requires.grid.ends;
-      of_tiles = record { size = (refl, refl); count = count; each = λ k x there. (each k x there).exits };
-    }) c.run.ensures.len c.run.ensures.given
-
-pub returns-clause-counts : goal.returns-clause-counts
-returns-clause-counts g c =
-    let t = c.args.tiling.now in
-    let d = directed_on t c.args.codes.now in
-    jobs_gave (IsTileFlow d t) _ _ c.tiles.ensures.value
-    (λ outs count each. record { each = λ k x there. (each k x there).counts }) c.run.ensures.len c.run.ensures.given
+    jobs_gave (IsTileFlow (directed_on c.args.tiling.now c.args.codes.now) c.args.tiling.now) _ _ c.tiles.ensures.value
+    (λ outs count each. record { size = (refl, refl); count = count; each = each }) c.run.ensures.len
+    c.run.ensures.given
