@@ -23,53 +23,48 @@ top_set n high fits = omega (arith, high, fits)
 top_clear : (n : ℕ) → n < 2 ^ 63 → bit_at n 63 ≡ 0
 top_clear n low = omega (arith, low)
 
--- numbers far from the ends of 64 bits
-abbrev Small : ℤ → Type 0
-Small z = (negsuc 4000000000000000000 ≤ℤ z) × (z ≤ℤ pos 4000000000000000000)
-
-below : (a b : ℤ) → Small a → Small b → a <ℤ b → bit_at (difference a b) 63 ≡ 1
-below a b small few less = ap (λ n. bit_at n 63) (difference_is a b) ∙ at a b small few less
+below : (a b : ℤ) → IsHeight a → IsHeight b → a <ℤ b → bit_at (difference a b) 63 ≡ 1
+below a b high low less = ap (λ n. bit_at n 63) (difference_is a b) ∙ at a b high low less
   where
-    at : (a b : ℤ) → Small a → Small b → a <ℤ b →
+    at : (a b : ℤ) → IsHeight a → IsHeight b → a <ℤ b →
         bit_at ((cast_unsigned w64 a + (2 ^ 64 - cast_unsigned w64 b)) % 2 ^ 64) 63 ≡ 1
-    at (pos a) (pos b) small few less = top_set _ (omega (arith, ints, small, few, less)) (omega arith)
-    at (negsuc a) (pos b) small few less = top_set _ (omega (arith, ints, small, few, less)) (omega arith)
-    at (negsuc a) (negsuc b) small few less = top_set _ (omega (arith, ints, small, few, less)) (omega arith)
-    at (pos a) (negsuc b) small few less = absurd (omega (arith, ints, less))
+    at (pos a) (pos b) high low less = top_set _ (omega (arith, ints, high, low, less)) (omega arith)
+    at (negsuc a) (pos b) high low less = top_set _ (omega (arith, ints, high, low, less)) (omega arith)
+    at (negsuc a) (negsuc b) high low less = top_set _ (omega (arith, ints, high, low, less)) (omega arith)
+    at (pos a) (negsuc b) high low less = absurd (omega (arith, ints, less))
 
-above : (a b : ℤ) → Small a → Small b → b ≤ℤ a → bit_at (difference a b) 63 ≡ 0
-above a b small few more = ap (λ n. bit_at n 63) (difference_is a b) ∙ at a b small few more
+above : (a b : ℤ) → IsHeight a → IsHeight b → b ≤ℤ a → bit_at (difference a b) 63 ≡ 0
+above a b high low more = ap (λ n. bit_at n 63) (difference_is a b) ∙ at a b high low more
   where
-    at : (a b : ℤ) → Small a → Small b → b ≤ℤ a →
+    at : (a b : ℤ) → IsHeight a → IsHeight b → b ≤ℤ a →
         bit_at ((cast_unsigned w64 a + (2 ^ 64 - cast_unsigned w64 b)) % 2 ^ 64) 63 ≡ 0
-    at (pos a) (pos b) small few more = top_clear _ (omega (arith, ints, small, few, more))
-    at (pos a) (negsuc b) small few more = top_clear _ (omega (arith, ints, small, few, more))
-    at (negsuc a) (negsuc b) small few more = top_clear _ (omega (arith, ints, small, few, more))
-    at (negsuc a) (pos b) small few more = absurd (omega (arith, ints, more))
+    at (pos a) (pos b) high low more = top_clear _ (omega (arith, ints, high, low, more))
+    at (pos a) (negsuc b) high low more = top_clear _ (omega (arith, ints, high, low, more))
+    at (negsuc a) (negsuc b) high low more = top_clear _ (omega (arith, ints, high, low, more))
+    at (negsuc a) (pos b) high low more = absurd (omega (arith, ints, more))
 
 pub gap_or_lower : (level : ℤ) (cell : Option ℤ) → IsHeight level → IfSome cell IsHeight →
     (bit_at (bit_or (difference (unwrap_or cell no_data) level) (difference highest (unwrap_or cell no_data))) 63 ≡ 1)
     ↔ IsGapOrLower level cell
 gap_or_lower level None high within = (
   λ _. tt,
-  λ _. omega (
-    arith,
-    bit_at_or (difference no_data level) (difference highest no_data) 63,
-    bit_at-lt (difference no_data level) 63,
-    top_set (difference highest no_data) (omega (arith, difference_is highest no_data)) (omega (arith, difference_is highest no_data)),
-  ),
+  λ _.
+      let gap = difference_is highest no_data in
+      omega (
+        arith,
+        bit_at_or (difference no_data level) (difference highest no_data) 63,
+        bit_at-lt (difference no_data level) 63,
+        top_set (difference highest no_data) (omega (arith, gap)) (omega (arith, gap)),
+      ),
 )
 gap_or_lower level (Some height) high within =
     let both = bit_at_or (difference height level) (difference highest height) 63 in
-    let some : bit_at (difference highest height) 63 ≡ 0 = above highest height
-    (omega (arith, ints), omega (arith, ints)) (omega (arith, ints, within), omega (arith, ints, within)) within.1 in
+    let no_gap = above highest height (omega (arith, ints), omega (arith, ints)) within within.1 in
     elim (cases_Bool (int_lt height level)) [
       | inl lower ↦ (let less : height <ℤ level = grind (arith, lower) in
-          let set = below height level (omega (arith, ints, within), omega (arith, ints, within))
-          (omega (arith, ints, high), omega (arith, ints, high)) less in
-          (λ _. less, λ _. omega (arith, both, set, some)))
-      | inr not_lower ↦ (let more : level ≤ℤ height = grind (arith, not_lower) in
-          let clear = above height level (omega (arith, ints, within), omega (arith, ints, within))
-          (omega (arith, ints, high), omega (arith, ints, high)) more in
-          (λ one. absurd (omega (arith, both, clear, some, one)), λ less. absurd (omega (arith, ints, less, more))))
+          (λ _. less, λ _. omega (arith, both, below height level within high less, no_gap)))
+      | inr not_lower ↦ (let more : level ≤ℤ height = grind (arith, not_lower) in (
+        λ one. absurd (omega (arith, both, above height level within high more, no_gap, one)),
+        λ less. absurd (omega (arith, ints, less, more)),
+      ))
     ]

@@ -106,22 +106,24 @@ fall_next {level = level} {heights = heights} {parity = parity} {way = way} {nex
 -- no square but 0 is twice another: the roots would be even, and have halves of the same kind
 pub root_of_two : (n a b : ℕ) → a ≤ n → 2 * (a * a) ≡ b * b → a ≡ 0
 root_of_two zero a b few twice = omega (arith, few)
-root_of_two (suc n) a b few twice =
-    let half = b / 2 in
-    let even : b ≡ half + half = elim (cases_eq (b % 2) 0) [
-      | inl e ↦ omega (arith, e)
-      | inr odd ↦ (let is : b ≡ half + half + 1 = omega (arith, odd) in
-          absurd (omega (arith, rw is at twice, square_of half 1)))
-    ] in
-    let less : 2 * (half * half) ≡ a * a = omega (arith, rw even at twice, square_of half 0) in
-    elim (cases_eq a 0) [
-      | inl none ↦ none
-      | inr some ↦ (let none = root_of_two n half a (elim (cases_lt half a) [
-        | inl below ↦ omega (arith, few, below)
-        | inr above ↦ absurd (omega (arith, mul-le a a half half above above, mul-lt 0 0 a a (omega (arith, some)) (omega (arith, some)), less))
-      ]) less in
-          absurd (omega (arith, less, rw none at less, mul-lt 0 0 a a (omega (arith, some)) (omega (arith, some)))))
-    ]
+root_of_two (suc n) a b few twice = elim (cases_eq a 0) [
+  | inl none ↦ none
+  | inr some ↦
+      (let half = b / 2 in
+      let even : b ≡ half + half = elim (cases_eq (b % 2) 0) [
+        | inl e ↦ omega (arith, e)
+        | inr odd ↦ (let is : b ≡ half + half + 1 = omega (arith, odd) in
+            absurd (omega (arith, rw is at twice, square_of half 1)))
+      ] in
+      let halved : 2 * (half * half) ≡ a * a = omega (arith, rw even at twice, square_of half 0) in
+      let squared : 0 < a * a = mul-lt 0 0 a a (omega (arith, some)) (omega (arith, some)) in
+      let below : half < a = elim (cases_lt half a) [
+        | inl less ↦ less
+        | inr more ↦ absurd (omega (arith, mul-le a a half half more more, squared, halved))
+      ] in
+      let none = root_of_two n half a (omega (arith, few, below)) halved in
+      absurd (omega (arith, rw none at halved, squared)))
+]
   where
     square_of : (h r : ℕ) → (h + h + r) * (h + h + r) ≡ 4 * (h * h) + 4 * (h * r) + r * r
     square_of h r = omega arith

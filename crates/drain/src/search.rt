@@ -8,29 +8,27 @@ ghost use Rattle.terrain.specs.Neighbours.{Touches};
 ghost use Rattle.terrain.specs.Ways.{around_index};
 ghost use Rattle.terrain.specs.declared.place.Place.{Place};
 ghost use Rattle.tiles.specs.Windows.{area_of, spot_index, IsSpot, IsInner};
+ghost use Rattle.drainage.specs.StepCounts.{no_count};
 ghost use Rattle.drain.specs.Search.{AreAtMostNoCount, AreSettled, height_on, count_on, IsLowering, IsNear, IsPulled, IsSearched, IsSpread};
 
+use drainage::NO_COUNT;
 use std::alloc::{AllocError, Global};
 use terrain::{Cell, Place, place_on};
 use tiles::Window;
 
-/// Returns a spot's count plus 1 if the spot has height `level`, else `bound`.
+/// Returns a spot's count plus 1 if the spot has height `level`, else more than [`NO_COUNT`].
 #[inline(always)]
-fn count_beside(cells: &[Cell], counts: &[u32], index: usize, level: Cell, bound: u32) -> u32
+fn count_beside(cells: &[Cell], counts: &[u32], index: usize, level: Cell) -> u32
     requires cell { index < length cells.now }
     requires count { index < length counts.now }
     requires few { AreAtMostNoCount counts.now }
     ensures { ((slice_index_or cells.now index None ≡ level)
         × (result ≡ slice_index_or counts.now index 0 + 1))
-        ⊎ ((slice_index_or cells.now index None ≢ level) × (result ≡ bound)) }
+        ⊎ ((slice_index_or cells.now index None ≢ level) × (no_count < result)) }
 {
     // No branch: which spots are level is hard to guess.
-    let next = counts[index] + 1;
-    if cells[index].is_level_with(level) {
-        next
-    } else {
-        bound
-    }
+    let is_other = !cells[index].is_level_with(level) as u32;
+    counts[index] + 1 + is_other * NO_COUNT
 }
 
 /// Returns 1 plus the least count around `spot`, at most `bound`.
@@ -54,7 +52,7 @@ fn least_around(window: &Window<Cell>, counts: &[u32], spot: Place, bound: u32) 
     let at = window.around(spot);
     let mut least = bound;
     for way in 0..8 {
-        least = least.min(count_beside(cells, counts, at[way], level, bound));
+        least = least.min(count_beside(cells, counts, at[way], level));
     }
     least
 }

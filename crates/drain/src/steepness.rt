@@ -88,8 +88,8 @@ pub(crate) fn steepest(level: Height, heights: &[Cell; 8]) -> Option<usize>
     let across = greatest_fall(level, heights, 1);
     let side = square(straight.drop);
     let corner = square(across.drop);
-    // No square is twice another: two equal weights are 0. The top bit of a difference tells which is
-    // less, since the compiler makes a comparison a branch, which is hard to guess.
+    // No square is twice another, so equal weights are 0. The top bit of a difference tells which
+    // is less: of a comparison the compiler makes a branch, which is hard to guess.
     let less = ((2 * side).wrapping_sub(corner + 1) >> 127) as usize;
     let way = [straight.way, across.way][less];
     (straight.drop + across.drop > 0).then_some(way)

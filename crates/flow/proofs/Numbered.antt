@@ -119,14 +119,14 @@ module _ {d : Directed} {t : Cutting} {flows : List Flow} {o : Outlets} {n : End
       code_entry p i = sym (cond-true _ _ _ (in_bounds_from _ p (in_flow p i))) ∙ right.same_codes p i
 
       -- The exit of a data cell p, as the flow lists it.
-      record Has (p : Place) : Type 0 where
+      record ListedExit (p : Place) : Type 0 where
         pub exit : Place
         pub listed : get_or f.exits (index_in f.bounds p) None ≡ Some exit
         pub leads : IsExitOf d t p exit
         pub coded : IsCoded d exit
         pub inside : IsInTile t tile exit
 
-      has_exit : {p : Place} → IsInTile t tile p → IsCoded d p → Has p
+      has_exit : {p : Place} → IsInTile t tile p → IsCoded d p → ListedExit p
       has_exit {p} i is =
           let m = MatchOption-at_some _ _ _ is.is (right.each p i) in
           let x = exit_in_tile s.are_flows _ is m.2 in
@@ -156,7 +156,7 @@ module _ {d : Directed} {t : Cutting} {flows : List Flow} {o : Outlets} {n : End
       }
 
       -- `tile_numbers` has at p's exit the number of the cell where the flow path of p ends.
-      exit_number_is : {p : Place} → IsCoded d p → (h : Has p) →
+      exit_number_is : {p : Place} → IsCoded d p → (h : ListedExit p) →
           (tile_numbers o flows n f).number (index_in f.bounds h.exit) ≡ end_number d n p
       exit_number_is is h = cc (
         cond-true {A = ℕ} _ _ 0 (ap is_some (code_entry h.exit h.inside ∙ h.coded.is)),

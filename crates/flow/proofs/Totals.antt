@@ -55,8 +55,9 @@ module _ {links : List ℕ} (streams : AreStreams links) (P : ℕ → ℕ → Ty
   each_downstream i h = by_chains _ i h (λ c. let r = early_end links streams.inside _ c.inside _
       (streams.ends _ c.inside) in c.goes _ r.1 r.2)
 
-pub sums_le : (links : List ℕ) (i : ℕ) (f g : ℕ → ℕ) → ((j : ℕ) → j < length links → leads_to links j i ≡ true →
-    f j ≤ g j) → upstream_sum links f i ≤ upstream_sum links g i
+pub sums_le : (links : List ℕ) (i : ℕ) (f g : ℕ → ℕ) →
+    ((j : ℕ) → j < length links → leads_to links j i ≡ true → f j ≤ g j) →
+    upstream_sum links f i ≤ upstream_sum links g i
 sums_le links i f g le =
     sum_below-le (λ j. upstream links j i (f j)) (λ j. upstream links j i (g j)) (length links)
     (λ j l. elim (cases_Bool (leads_to links j i)) [
@@ -64,8 +65,9 @@ sums_le links i f g le =
       | inr off ↦ omega (arith, cond-false _ (f j) 0 off, cond-false)
     ])
 
-pub sums_same : (links : List ℕ) (i : ℕ) (f g : ℕ → ℕ) → ((j : ℕ) → j < length links → leads_to links j i ≡ true →
-    f j ≡ g j) → upstream_sum links f i ≡ upstream_sum links g i
+pub sums_same : (links : List ℕ) (i : ℕ) (f g : ℕ → ℕ) →
+    ((j : ℕ) → j < length links → leads_to links j i ≡ true → f j ≡ g j) →
+    upstream_sum links f i ≡ upstream_sum links g i
 sums_same links i f g same = omega (
   arith,
   sums_le links i f g (λ j l on. omega arith),

@@ -1,7 +1,7 @@
--- A line has n steps. At each step its near cell is at or before it (`index_at`), and it is some
--- n-ths of a cell past the near cell (`part_at`). The pace is the change of both in one step, and
--- leads from step k to step k + 1. The near cell is in the list. So is the far cell, the next on
--- the side coordinate, if the n-ths are above 0. The sums of indexes fit in 64 bits (`room`).
+-- A line has n steps. At step k `index_at` is the index of the near cell, which is at or before the
+-- line, and `part_at` is how many n-ths of a cell the line is past the near cell. The pace is the
+-- change of index_moved from step k to step k + 1. The near cell is in the list. So is the far cell, the
+-- next on the side coordinate, if the n-ths are above 0. The sums of indexes fit in 64 bits (`room`).
 use Rattle.std.proofs.Common.{arith, ap, ◌≡◌, ◌+◌, ◌*◌, ◌^◌, ◌/◌, ◌<◌, ◌≤◌, ℕ, ℤ, Option, List, length, max, inl, inr}
 use Rattle.std.specs.Int.{abs_diff}
 use Rattle.std.proofs.lemmas.Bool.{cases_lt}
@@ -19,37 +19,38 @@ lead_step a n k ahead behind part e some h gains =
     let none = lead_part a.from a.to n ahead behind part e (omega arith) gains.below in
     (step_stays a.from a.to n k 1 ahead behind part (omega arith) gains.sum (omega arith)).0
 
--- if coordinates move by la - lb and sa - sb + one, the index moves by these times the strides
-moved : (x y s t la lb sa sb x' y' one : ℕ) → x' + lb ≡ x + la → y' + sb ≡ y + sa + one →
-    x' * s + y' * t + (lb * s + sb * t) ≡ x * s + y * t + (la * s + sa * t) + one * t
-moved x y s t la lb sa sb x' y' one p q = omega (arith, ap (λ z. z * s) p, ap (λ z. z * t) q)
+-- If coordinates move by la - lb and sa - sb + carry, the index moves by these times the strides:
+-- la and sa are cells ahead on lead and side, lb and sb cells behind.
+moved : (x y s t la lb sa sb x' y' carry : ℕ) → x' + lb ≡ x + la → y' + sb ≡ y + sa + carry →
+    x' * s + y' * t + (lb * s + sb * t) ≡ x * s + y * t + (la * s + sa * t) + carry * t
+moved x y s t la lb sa sb x' y' carry p q = omega (arith, ap (λ z. z * s) p, ap (λ z. z * t) q)
 
 pub index_stays : (lead side : Axis) (n k : ℕ) (pace : Pace) → n ≡ abs_diff lead.from lead.to → k < n →
     IsPace lead side n pace → part_at side n k + pace.part < n →
     (index_at lead side n (k + 1) + pace.behind ≡ index_at lead side n k + pace.ahead) ×
     (part_at side n (k + 1) ≡ part_at side n k + pace.part)
 index_stays lead side n k pace e h p below =
-    let two =
+    let side_moved =
     step_stays side.from side.to n k 1 p.side_ahead p.side_behind pace.part (omega arith) p.side_gains.sum below in
-    let both =
+    let index_moved =
     moved (whole_at lead n k) (whole_at side n k) lead.stride side.stride p.lead_ahead p.lead_behind p.side_ahead
     p.side_behind (whole_at lead n (k + 1)) (whole_at side n (k + 1)) 0
     (lead_step lead n k _ _ _ e (omega arith) h p.lead_gains) (omega arith) in
-    (omega (arith, both), two.1)
+    (omega (arith, index_moved), side_moved.1)
 
 pub index_passes : (lead side : Axis) (n k : ℕ) (pace : Pace) → n ≡ abs_diff lead.from lead.to → k < n →
     IsPace lead side n pace → n ≤ part_at side n k + pace.part →
     (index_at lead side n (k + 1) + pace.behind ≡ index_at lead side n k + pace.ahead + pace.beside) ×
     (part_at side n (k + 1) + n ≡ part_at side n k + pace.part)
 index_passes lead side n k pace e h p passed =
-    let two =
+    let side_moved =
     step_passes side.from side.to n k 1 p.side_ahead p.side_behind _ (omega arith) (omega arith) p.side_gains.sum
     p.side_gains.below passed in
-    let both =
+    let index_moved =
     moved (whole_at lead n k) (whole_at side n k) lead.stride side.stride p.lead_ahead p.lead_behind p.side_ahead
     p.side_behind (whole_at lead n (k + 1)) (whole_at side n (k + 1)) 1
-    (lead_step lead n k _ _ _ e (omega arith) h p.lead_gains) two.0 in
-    (omega (arith, both), two.1)
+    (lead_step lead n k _ _ _ e (omega arith) h p.lead_gains) side_moved.0 in
+    (omega (arith, index_moved), side_moved.1)
 
 pub whole_le : (a : Axis) (n k : ℕ) → 0 < n → k ≤ n → whole_at a n k ≤ max a.from a.to
 whole_le a n k some h =

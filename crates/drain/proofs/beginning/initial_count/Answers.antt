@@ -18,15 +18,17 @@ returns-else-drains-is_some c =
     rw (c.deref-cells.ensures.value, c.index.ensures.value) at (c.index-cells-index.is
     ∙ get_or_default cells c.index.result c.index-cells-index.result None below) in
     let fits : SFits height_width c.number.result = search rules in
-    let none = rw (to_z-of_z fits, c.deref-cells.ensures.value, c.around.ensures.value) at c.any_gap_or_lower-drains.ensures in (
+    let none =
+    rw (to_z-of_z fits, c.deref-cells.ensures.value, c.around.ensures.value) at c.any_gap_or_lower-drains.ensures in (
       omega arith,
       record {
         zero = λ has.
             let own = cell ∙ has.2 in
             let number : c.number.result ≡ has.1 = c.number.ensures ∙ ap (λ o. unwrap_or o no_data) own in
-            let high : IsHeight has.1 = subst (λ o. IfSome o IsHeight) has.2 (c.requires.heights (spot_index w.bounds c.args.spot)) in
+            let high = subst (λ o. IfSome o IsHeight) has.2 (c.requires.heights (spot_index w.bounds c.args.spot)) in
             elim (cases_Bool c.any_gap_or_lower-drains.result) [
-              | inl drains ↦ absurd (false≢true (sym c.if-drains-is_some.false ∙ rw (drains, c.is_some.ensures, c.height.ensures, own) refl))
+              | inl drains ↦ absurd (false≢true (sym c.if-drains-is_some.false
+                  ∙ rw (drains, c.is_some.ensures, c.height.ensures, own) refl))
               | inr still ↦ absurd ((rw (still, number) at none) high has.3 has.4 has.5)
             ];
         only = λ n e. absurd (none-some n e);

@@ -1,4 +1,4 @@
-use Rattle.std.proofs.Common.{◌≡◌, ◌+◌, ◌-◌, ◌≤◌, ◌<◌, ◌⊎◌, ℕ, None, Some, get_or, inl, inr, ap, sym, ◌∙◌, arith}
+use Rattle.std.proofs.Common.{◌≡◌, ◌+◌, ◌-◌, ◌≤◌, ◌<◌, ◌⊎◌, None, Some, get_or, inl, inr, ap, sym, ◌∙◌, arith}
 use Rattle.std.proofs.lemmas.Bool.{cases_lt, eq-eqb, eqb-true, false≢true}
 use Rattle.std.proofs.lemmas.List.{get_or_default}
 use Rattle.drain.specs.Search.{stored}
@@ -26,50 +26,57 @@ loop-turn-preserved c =
     ∙ get_or_default cells (get_or at (7 - turn) 0) c.index-cells-index.result None
     (c.requires.cells (7 - turn) below) in
     let is = IsOnwardWay cells steps at level own in
-    let least = more_ways (λ (way : ℕ). level_at cells at way ≡ level → c.min-least.result ≤ stored_at steps at way + 1)
-    turn left in
+    let before = c.loop-turn.least in
+    let after = c.min-least.result in
+    let least = c.min-least.ensures in
+    let both = c.if-is_level-count in
     elim c.if-is_level.branch [
       | then-is_level w ↦
           (let high : level_at cells at (7 - turn) ≡ level =
           sym cell ∙ c.is_level_with-is_level.ensures.0 w.if-is_level.true in
-          let few : c.min-least.result ≤ own = omega (arith, inv.few, c.min-least.ensures, w.next-is) in
-          let each = least (λ way past small on. omega (arith, inv.each way past small on, c.min-least.ensures, w.next-is))
-          (λ _. omega (arith, c.min-least.ensures, w.next-is, count)) in
-          let one : (c.min-least.result ≡ own) ⊎ IsTooHigh cells steps at level own c.min-least.result =
-          elim (cases_lt (stored_at steps at (7 - turn) + 1) c.loop-turn.least) [
-            | inl less ↦ (let is : c.min-least.result ≡ stored_at steps at (7 - turn) + 1 = omega (arith, c.min-least.ensures, w.next-is, count, less) in
+          let few : after ≤ own = omega (arith, inv.few, least, w.next-is) in
+          let each = more_ways (λ way. level_at cells at way ≡ level → after ≤ stored_at steps at way + 1) turn left
+          (λ way past small on. omega (arith, inv.each way past small on, least, w.next-is))
+          (λ _. omega (arith, least, w.next-is, count)) in
+          let one : (after ≡ own) ⊎ IsTooHigh cells steps at level own after =
+          elim (cases_lt (stored_at steps at (7 - turn) + 1) before) [
+            | inl less ↦
+                (let is : after ≡ stored_at steps at (7 - turn) + 1 = omega (arith, least, w.next-is, count, less) in
                 inr (omega (arith, is, less, inv.few), 7 - turn, below, high, is))
-            | inr more ↦ (let is : c.min-least.result ≡ c.loop-turn.least = omega (arith, c.min-least.ensures, w.next-is, count, more) in
-                rw is inv.one)
+            | inr more ↦ (let is : after ≡ before = omega (arith, least, w.next-is, count, more) in rw is inv.one)
           ] in
-          elim c.if-is_level-count.branch [
-            | then-is_level-count v ↦ record {
-              few = few;
-              each = each;
-              one = one;
-              found = Some (7 - turn);
-              code = v.code-is ∙ v.of_way-code.ensures;
-              first = first_here is turn left (high, omega (arith, eqb-true _ _ (rw w.if-is_level.true at v.if-is_level-count.true), count));
-            }
+          elim both.branch [
+            | then-is_level-count v ↦
+                (let same = eqb-true _ _ (rw w.if-is_level.true at v.if-is_level-count.true) in
+                record {
+                  few = few;
+                  each = each;
+                  one = one;
+                  found = Some (7 - turn);
+                  code = v.code-is ∙ v.of_way-code.ensures;
+                  first = first_here is turn left (high, omega (arith, same, count));
+                })
             | else-is_level-count v ↦ record {
               few = few;
               each = each;
               one = one;
               found = inv.found;
               code = v.code-is ∙ inv.code;
-              first = first_kept is turn inv.found left inv.first (λ on. false≢true (sym v.if-is_level-count.false ∙ rw w.if-is_level.true (eq-eqb _ _ (omega (arith, on.1, count)))));
+              first = first_kept is turn inv.found left inv.first
+                  (λ on. false≢true (sym v.if-is_level-count.false
+                  ∙ rw w.if-is_level.true (eq-eqb _ _ (omega (arith, on.1, count)))));
             }
           ])
       | else-is_level w ↦
           (let off = λ (high : level_at cells at (7 - turn) ≡ level).
           false≢true (sym w.if-is_level.false ∙ c.is_level_with-is_level.ensures.1 (cell ∙ high)) in
-          let is_least : c.min-least.result ≡ c.loop-turn.least = omega (arith, inv.few, c.min-least.ensures, w.next-is) in
-          elim c.if-is_level-count.branch [
+          let same : after ≡ before = omega (arith, inv.few, least, w.next-is) in
+          elim both.branch [
             | then-is_level-count v ↦ absurd (false≢true (rw w.if-is_level.false at v.if-is_level-count.true))
-            | else-is_level-count v ↦ rw is_least (record {
+            | else-is_level-count v ↦ rw same (record {
               few = inv.few;
-              each = more_ways (λ (way : ℕ). level_at cells at way ≡ level → c.loop-turn.least ≤ stored_at steps at way + 1)
-                  turn left inv.each (λ high. absurd (off high));
+              each = more_ways (λ way. level_at cells at way ≡ level → before ≤ stored_at steps at way + 1) turn left
+                  inv.each (λ high. absurd (off high));
               one = inv.one;
               found = inv.found;
               code = v.code-is ∙ inv.code;

@@ -35,38 +35,33 @@ loop-way-preserved c =
           | inl e ↦ absurd (other.0 (rw e at same))
           | inr ne ↦ omega (arith, c.min-least.ensures, inv.each k (omega (arith, below, ne)) same)
         ];
-        one = (let same : c.min-least.result ≡ c.loop-way.least = omega (arith, c.min-least.ensures, other.1, inv.low) in
+        one = (let same : c.min-least.result ≡ c.loop-way.least =
+            omega (arith, c.min-least.ensures, other.1, inv.low) in
             rw same inv.one);
       }
     ]
 
--- what the loop has found, by the spot and its window
-pub returns-clause-each : goal.returns-clause-each
-returns-clause-each c r touch same =
+pub returns : goal.returns
+returns c =
     let w = c.args.window.now in
+    let spot = c.args.spot in
     let inv = rw (c.deref-cells.ensures.value, c.around-at.ensures.value) at c.loop-way.invariant in
     let below : c.index.result < length c.deref-cells.result.now = search rules in
-    let own : c.index-cells-index.result ≡ height_on w c.args.spot =
+    let own : c.index-cells-index.result ≡ height_on w spot =
     rw (c.deref-cells.ensures.value, c.index.ensures.value) at (c.index-cells-index.is
     ∙ get_or_default c.deref-cells.result.now c.index.result c.index-cells-index.result None below) in
-    elim (cases_place r c.args.spot) [
-      | inl e ↦ rw e (omega (arith, c.requires.own, inv.low))
-      | inr ne ↦ (let way = way_beside w.bounds c.args.spot r c.requires.spot touch (λ e. ne (sym e)) in
-          let least = inv.each way.0 (omega (arith, way.1))
-          (ap (λ n. get_or w.values.items n None) way.2 ∙ same ∙ sym own) in
-          rw way.2 at least)
-    ]
-
-pub returns-clause-one : goal.returns-clause-one
-returns-clause-one c =
-    let w = c.args.window.now in
-    let inv = rw (c.deref-cells.ensures.value, c.around-at.ensures.value) at c.loop-way.invariant in
-    let below : c.index.result < length c.deref-cells.result.now = search rules in
-    let own : c.index-cells-index.result ≡ height_on w c.args.spot =
-    rw (c.deref-cells.ensures.value, c.index.ensures.value) at (c.index-cells-index.is
-    ∙ get_or_default c.deref-cells.result.now c.index.result c.index-cells-index.result None below) in
-    elim inv.one [
-      | inl e ↦ inl e
-      | inr found ↦ (let q = beside w.bounds c.args.spot c.requires.spot found.0 found.1 in
-          inr (q.0, q.1.spot, q.1.back, rw q.1.index at found.2 ∙ own, rw q.1.index at found.3, found.4))
-    ]
+    record {
+      bound = inv.low;
+      each = λ r touch same. elim (cases_place r spot) [
+        | inl e ↦ rw e (omega (arith, c.requires.own, inv.low))
+        | inr ne ↦ (let way = way_beside w.bounds spot r c.requires.spot touch (λ e. ne (sym e)) in
+            let least = inv.each way.0 (omega (arith, way.1))
+            (ap (λ n. get_or w.values.items n None) way.2 ∙ same ∙ sym own) in
+            rw way.2 at least)
+      ];
+      one = elim inv.one [
+        | inl e ↦ inl e
+        | inr found ↦ (let q = beside w.bounds spot c.requires.spot found.0 found.1 in
+            inr (q.0, q.1.spot, q.1.back, rw q.1.index at found.2 ∙ own, rw q.1.index at found.3, found.4))
+      ];
+    }

@@ -15,8 +15,11 @@ flow_tiles-requires-clause-grid g c κs within = grid_flow c.args.tiling.now c.c
 
 pub join-requires : goal.join-requires
 join-requires g c =
-    let grid = grid_flow c.args.tiling.now c.codes.ensures.draining c.requires c.codes.ensures.value in
-    (directed_on c.args.tiling.now c.codes.result.now, grid.ends, rw (← c.deref.ensures.value) at c.in_ok-flows.ensures.flows)
+    let grid = grid_flow c.args.tiling.now c.codes.ensures.draining c.requires c.codes.ensures.value in (
+      directed_on c.args.tiling.now c.codes.result.now,
+      grid.ends,
+      rw (← c.deref.ensures.value) at c.in_ok-flows.ensures.flows,
+    )
 
 pub invariant_of-map_tiles : goal.invariant_of-map_tiles
 invariant_of-map_tiles g c =
