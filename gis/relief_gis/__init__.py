@@ -1,7 +1,9 @@
 """Drainage and visibility maps of numpy arrays and rasters, made by the program `relief`.
 
-The functions take and return arrays (`relief_gis.arrays` says which); rasters, projections and points are the matter
-of the command `relief-gis` (`relief_gis.job`). No map is computed here: each is what `relief` writes.
+The functions take and return arrays (`relief_gis.arrays` says which); the command `relief-gis` handles rasters,
+projections and points (`relief_gis.job`). `relief` makes the maps of drainage and sight. `depth`, `area`, `streams`,
+`uncertain`, `visibility`, `compare` and `basins` without small ones are derived from its maps here. `profile` runs no
+program.
 """
 from importlib import import_module
 from typing import TYPE_CHECKING, Any, List
@@ -21,14 +23,14 @@ __all__ = [
     "Profile", "Program", "Sight", "Visibility",
     "Cancelled", "DeviceError", "GisError", "InputError", "MissingError", "ReliefError", "UsageError",
 ]
-# The modules of names that are none of `arrays`. A name is imported when it is first asked for: the command needs few.
+# Where names outside `arrays` are defined.
 _MODULES = {"NODATA_CODE": "making", "NODATA_COUNT": "making", "Profile": "sightline", "Program": "program",
             **{name: "errors" for name in ("Cancelled", "DeviceError", "GisError", "InputError", "MissingError",
                                            "ReliefError", "UsageError")}}
 
 
 def __getattr__(name: str) -> Any:
-    """A name of `__all__` from its module, or the module `arrays`."""
+    """Imports a name of `__all__`, or the module `arrays`, at its first use, since the command needs few names."""
     if name == "arrays":
         return import_module(".arrays", __name__)
     if name not in __all__:

@@ -144,7 +144,7 @@ class Algorithms(Case):
             self.assertEqual((folder / f"qgis_{name}.qml").exists(), (folder / f"{name}.qml").exists())
         self.assertFalse((folder / "qgis_basins.tif").exists())
         for words, told in (([], "choose a file for one of the maps"),
-                            ([f"--FLOW={folder}/no.tif", *self.points], "gauges are those of the catchments")):
+                            ([f"--FLOW={folder}/no.tif", *self.points], "gauges need the map of catchments")):
             done = PROFILE.run("run", "relief:maps", f"--INPUT={folder}/dem.tif", *words)
             self.assertNotEqual(done.returncode, 0)
             self.assertIn(told, done.stdout + done.stderr)

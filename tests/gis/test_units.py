@@ -59,7 +59,7 @@ class Text(unittest.TestCase):
     def test_rows_and_nodata(self):
         words = self.text([[-5, 120], [7, 0]], [[True, True], [False, True]]).split()
         self.assertEqual(words[:12:2], ["ncols", "nrows", "xllcorner", "yllcorner", "cellsize", "NODATA_value"])
-        # -5 became 100.
+        # All are raised by 105, so that each word has three digits; NODATA is one above the highest.
         self.assertEqual([int(word) for word in words[1:12:2]], [2, 2, 0, 0, 1, 226])
         self.assertEqual([int(word) for word in words[12:]], [100, 225, 226, 105])
 
@@ -108,7 +108,7 @@ class ArraysToUnits(unittest.TestCase):
 
 
 class Holes(unittest.TestCase):
-    def holes(self, picture, masked="."):
+    def holes(self, picture):
         grid = np.array([list(line) for line in picture])
         return find_holes(grid != "#", grid == "m")
 

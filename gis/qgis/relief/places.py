@@ -1,4 +1,7 @@
-"""Points and extents of QGIS in the projection of a raster layer, as far as the way there is known."""
+"""Points of QGIS in the projection of a raster layer.
+
+Coordinates are refused if no shift from their datum to the raster's is known.
+"""
 from __future__ import annotations
 
 from typing import Any, Dict, Iterator, List
@@ -15,9 +18,9 @@ WORDS = {"eye": "eye", "above": "target", "radius": "radius"}
 
 def check_change(reference: QgsCoordinateReferenceSystem, layer: QgsRasterLayer, context: QgsProcessingContext,
                  name: str) -> None:
-    """Refuses coordinates between whose datum and that of the raster no shift is known.
+    """Refuses coordinates if no shift from their datum to the raster's is known.
 
-    QGIS takes degrees as they are then, up to some hundred metres off.
+    Without a shift QGIS uses the degrees unshifted, up to some hundred metres off.
     """
     change = QgsCoordinateTransform(reference, layer.crs(), context.transformContext())
     if "ballpark" in change.instantiatedCoordinateOperationDetails().name.lower():
@@ -28,10 +31,10 @@ def check_change(reference: QgsCoordinateReferenceSystem, layer: QgsRasterLayer,
 
 def points_of(source: QgsProcessingFeatureSource, fields: Dict[str, str], layer: QgsRasterLayer,
               context: QgsProcessingContext) -> Iterator[Any]:
-    """The points of a layer in the projection of a raster layer, with numbers and names from its fields.
+    """The points of a layer in the projection of a raster layer, with numbers and labels from its fields.
 
     Args:
-        fields: by what they are in `points.Point`; an empty one is none.
+        fields: the layer's field for each attribute of `points.Point` (eye, above, radius, label); "" for none.
 
     Raises:
         InputError: a feature is no point, or the layer cannot be projected.
@@ -45,7 +48,7 @@ def points_of(source: QgsProcessingFeatureSource, fields: Dict[str, str], layer:
 
 def files_of(algorithm: QgsProcessingAlgorithm, parameters: Dict[str, Any], name: str,
              context: QgsProcessingContext) -> List[str]:
-    """The file of a layer of points, which no output may replace; none of a layer in memory or a database."""
+    """The file of a layer of points, which no output may replace; an empty list for a layer in memory or a database."""
     value = parameters.get(name)
     if isinstance(value, QgsProcessingFeatureSourceDefinition):
         value = value.source.staticValue()

@@ -20,7 +20,7 @@ class Maps(MapAlgorithm):
     map, title, kind = "maps", "Several maps of drainage", "Gauges"
     layers = (MapAlgorithm.POINTS, SINKS)
     about = ("Maps of drainage by one run, in little more than the time of one. Choose a file for each map that you "
-             "want. Gauges are those of the catchments, the threshold is that of the streams.")
+             "want. Gauges are for the catchments, the threshold is for the streams.")
 
     def add_places(self) -> None:
         """Adds gauges, sinks and the threshold."""
@@ -37,13 +37,13 @@ class Maps(MapAlgorithm):
             self.addParameter(QgsProcessingParameterRasterDestination(name.upper(), tr(label), None, True, False))
 
     def checkParameterValues(self, parameters: Dict[str, Any], context: QgsProcessingContext):  # noqa: N802
-        """Asks for a map, and for catchments where there are gauges."""
+        """Refuses parameters without a map, and gauges without a map of catchments."""
         wanted = [name for name in labels.TOGETHER if parameters.get(name.upper()) not in (None, "")]
         if not wanted:
             return False, tr("choose a file for one of the maps")
         has_gauges = any(parameters.get(name) not in (None, "") for name in (self.POINTS, self.AT))
         if has_gauges and "catchments" not in wanted:
-            return False, tr("gauges are those of the catchments: choose a file for these too")
+            return False, tr("gauges need the map of catchments: choose a file for it")
         return super().checkParameterValues(parameters, context)
 
     def processAlgorithm(self, parameters: Dict[str, Any], context: QgsProcessingContext,  # noqa: N802
