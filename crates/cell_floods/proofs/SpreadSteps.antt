@@ -398,19 +398,6 @@ spreads_then now x y z one other = record {
   work = omega (arith, one.work, other.work);
 }
 
--- The node beside node `to` stays so.
-pub still_beside : (now : ℤ) (label to : ℕ) (x y : Spreading) → Spreads now x y →
-    IsBesideLabel now label to x → IsBesideLabel now label to y
-still_beside now label to x y step by =
-    let kept = step.kept by.node by.labelled in
-    record {
-      node = by.node;
-      beside = subst (λ (n : Cells). IsBeside n.stride by.node to) (sym step.net) by.beside;
-      labelled = omega (arith, kept.1, by.labelled);
-      label_is = kept.1 ∙ by.label_is;
-      level_is = kept.0 ∙ by.level_is;
-    }
-
 module _ (now : ℤ) (n : Cells) (levels : List (Option ℤ)) (labels : List ℕ)
     (bordered : IsBordered n) (s : IsPart now n levels labels) (all : AreLabelled n labels)
     (held : (a : ℕ) → a < length n.cells → IsHeld n levels a) where

@@ -1,7 +1,5 @@
 -- worked examples
 mod Rows
--- entries of lists
-pub mod Reading
 -- steps: one number for each data cell, below 2^24; counts that no round changes are the steps
 pub mod Local
 pub mod Quiet

@@ -17,7 +17,7 @@ ghost use Rattle.tiles.specs.Cutting.{IsCutting, bounds_of, tile_count};
 ghost use Rattle.tiles.specs.Windows.{IsInner, Shows};
 ghost use Rattle.drain.specs.Codes.{AreAll, AreCodes, IsChecked, IsDownCode, IsOnwardCode, IsStillAround, IsTooHigh, stored_on};
 ghost use Rattle.drain.specs.Counts.{IsChange, IsCheckedCode};
-ghost use Rattle.drain.specs.Search.{level_on};
+ghost use Rattle.drain.specs.Search.{AreSetUpTo, level_on};
 
 use crate::changes::Change;
 use crate::input::RoundInput;
@@ -54,7 +54,7 @@ fn heights_at(cells: &[Cell], at: &[usize; 8]) -> [Cell; 8]
 /// Returns the code of the first way to a neighbour of height `level` with one step fewer than
 /// `own`.
 /// Returns an outlet's code if there is none, which is so of no cell once the counts are the steps.
-/// An error is the least count that follows from a neighbour's, of a cell with a greater one.
+/// An error is the least count that follows from a neighbour's, where that is below `own`.
 #[inline(always)]
 fn onward_code(
     cells: &[Cell],
@@ -224,32 +224,28 @@ impl<'a> CountedWindow<'a> {
         }
     }
 
-    /// Appends the codes of one row of the tile, and returns the first lower count that it finds.
-    fn codes_along(
-        &self,
-        row: u32,
-        codes: &mut Vec<Option<Code>>,
-    ) -> Result<Option<Change>, AllocError>
+    /// Writes the codes of one row of the tile, and returns the first lower count that it finds.
+    fn codes_along(&self, row: u32, codes: &mut [Option<Code>]) -> Option<Change>
         requires row { row < self.now.bounds.rows }
-        requires codes { IsMadeUpTo self.now.bounds (IsCheckedCode self.now.terrain self.now.all)
-            (row * self.now.bounds.cols) codes.old.items }
-        ensures codes { IfOk result (λ found. found ≡ None → IsMadeUpTo self.now.bounds
-            (IsCheckedCode self.now.terrain self.now.all)
-            ((row + 1) * self.now.bounds.cols) codes.new.items) }
-        ensures lower { IfOk result (λ found. IfSome found
-            (IsChange self.now.terrain self.now.all)) }
+        requires codes { AreSetUpTo self.now.bounds (IsCheckedCode self.now.terrain self.now.all)
+            (row * self.now.bounds.cols) codes.old }
+        ensures codes { result ≡ None → AreSetUpTo self.now.bounds
+            (IsCheckedCode self.now.terrain self.now.all) ((row + 1) * self.now.bounds.cols)
+            codes.new }
+        ensures lower { IfSome result (IsChange self.now.terrain self.now.all) }
     {
-        for col in 0..self.levels.bounds.cols {
+        let cols = self.levels.bounds.cols;
+        for col in 0..cols {
             let spot = Place {
                 row: row + 1,
                 col: col + 1,
             };
             match self.code_at(spot) {
-                Ok(code) => codes.push(code)?,
-                Err(change) => return Ok(Some(change)),
+                Ok(code) => codes[Place { row, col }.index_in(cols)] = code,
+                Err(change) => return Some(change),
             }
         }
-        Ok(None)
+        None
     }
 
     /// Returns the codes of the tile's cells, or a lower count.
@@ -257,9 +253,9 @@ impl<'a> CountedWindow<'a> {
         ensures { IfOk result (AreCodes self.now) }
     {
         let Bounds { rows, cols, .. } = self.levels.bounds;
-        let mut codes = Vec::with_capacity(alloc, rows as usize * cols as usize)?;
+        let mut codes = vec![in alloc; None; rows as usize * cols as usize]?;
         for row in 0..rows {
-            if let Some(change) = self.codes_along(row, &mut codes)? {
+            if let Some(change) = self.codes_along(row, &mut codes) {
                 return Ok(TileCodes::TooHigh(change));
             }
         }

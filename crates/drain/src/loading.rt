@@ -1,9 +1,9 @@
 //! Copies counts of steps: a tile's window from the whole grid's list, and the tile's own out of
 //! the window's. [`step_numbers`] turns the tile's counts into options of numbers.
-ghost use Rattle.std.specs.Prelude.{◌≡◌, ◌+◌, ◌*◌, ◌<◌, length, map, OnOk, IfOk};
+ghost use Rattle.std.specs.Prelude.{◌≡◌, ◌+◌, ◌*◌, ◌<◌, length, map, IfOk};
 ghost use Rattle.tiles.specs.Cutting.{bounds_of};
 ghost use Rattle.tiles.specs.Windows.{area_of};
-ghost use Rattle.drain.specs.Search.{AreWindowCounts, IsCopied};
+ghost use Rattle.drain.specs.Search.{AreSetUpTo, AreWindowCounts, IsCopied};
 ghost use Rattle.tile_maps.specs.Maps.{IsMadeUpTo};
 
 use drainage::{NO_COUNT, StepCount};
@@ -27,29 +27,23 @@ pub(crate) fn counts(
         .collect(alloc)
 }
 
-/// Appends the counts of one row of the tile.
-#[tactic(auto, using(crate::proofs::TileLists::copied_next))]
-fn copy_counts_along(
-    window: &Window<Cell>,
-    counts: &[u32],
-    row: u32,
-    list: &mut Vec<StepCount>,
-) -> Result<(), AllocError>
+/// Writes the counts of one row of the tile into its list.
+fn copy_counts_along(window: &Window<Cell>, counts: &[u32], row: u32, list: &mut [StepCount])
     requires size { length counts.now ≡ area_of window.now.bounds }
     requires row { row < window.now.bounds.rows }
-    requires list { IsMadeUpTo window.now.bounds (IsCopied window.now.bounds counts.now)
-        (row * window.now.bounds.cols) list.old.items }
-    ensures { OnOk result (IsMadeUpTo window.now.bounds (IsCopied window.now.bounds counts.now)
-        ((row + 1) * window.now.bounds.cols) list.new.items) }
+    requires list { AreSetUpTo window.now.bounds (IsCopied window.now.bounds counts.now)
+        (row * window.now.bounds.cols) list.old }
+    ensures { AreSetUpTo window.now.bounds (IsCopied window.now.bounds counts.now)
+        ((row + 1) * window.now.bounds.cols) list.new }
 {
-    for col in 0..window.bounds.cols {
+    let cols = window.bounds.cols;
+    for col in 0..cols {
         let spot = Place {
             row: row + 1,
             col: col + 1,
         };
-        list.push(StepCount::of(counts[window.index(spot)]))?;
+        list[Place { row, col }.index_in(cols)] = StepCount::of(counts[window.index(spot)]);
     }
-    Ok(())
 }
 
 /// Returns the counts of the window's tile, in row order.
@@ -64,9 +58,9 @@ pub(crate) fn copy_counts(
         v.items) }
 {
     let Bounds { rows, cols, .. } = window.bounds;
-    let mut list = Vec::with_capacity(alloc, rows as usize * cols as usize)?;
+    let mut list = vec![in alloc; StepCount::none(); rows as usize * cols as usize]?;
     for row in 0..rows {
-        copy_counts_along(window, counts, row, &mut list)?;
+        copy_counts_along(window, counts, row, &mut list);
     }
     Ok(list)
 }

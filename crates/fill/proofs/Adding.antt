@@ -183,6 +183,3 @@ module _ (c : Cutting) (floods : List Flood) (old now new : List Join) (before :
     | inl was ↦ before j was
     | inr made ↦ inr made
   ]
-
-pub no_meetings : (c : Cutting) (floods : List Flood) (joins : List Join) → AddsMeetings c floods joins joins
-no_meetings c floods joins j there = inl there

@@ -24,9 +24,6 @@ module _ (f : Flood) (places : List (Option Place)) (cells : List ℕ) (are : f.
       All (λ (o : Option Place). IfSome o (IsWithin c)) places
   all_within c table inside = all_inside _ places (table_inside _ _ places cells are table inside)
 
-  pub cells_size : IsFlood f → length cells ≡ length f.levels
-  cells_size lawful = cc (length-map cells (λ k. get_or places k None))
-
 pub label_entry : (f : Flood) (p : Place) {label : Place} → label_in f p ≡ Some label →
     (k : ℕ) × (get_or f.labels k None ≡ Some label)
 label_entry f p {label} e = (index_in f.bounds p, sym (entry_in-inside _ _ p (bounds_from_entry _ _ p label e)) ∙ e)

@@ -81,11 +81,6 @@ module _ {first : ℕ} {f : Flood} {crests : List (Option ℤ)} {x : RaisedTile}
         | inr some ↦ absurd (cc (tile.lawful.table.rest k (omega (arith, some)) low, listed))
       ]
 
-  pub stored_inside : All (λ k. k < length x.crests.now) x.labels.now.indexes
-  stored_inside i d below =
-      let at : i < length f.table.indexes = omega (arith, below, ap length tile.labels) in
-      omega (arith, tile.lawful.table.inside i d at, ap (λ (z : List ℕ). get_or z i d) tile.labels, tile.crests_size)
-
 -- The row and the column of a place's index are those of the place.
 place_back : (cols : ℕ) (p : Place) → p.col < cols →
     record { row = index_of cols p / cols; col = index_of cols p % cols } ≡ p

@@ -2,10 +2,10 @@
 -- first word that spells nothing is the bad word. If a command line names a map, none of its
 -- observer or gauge words is bad and its map words have no fault; if it names a viewshed or a rise, it
 -- has no sink words.
-use Rattle.std.proofs.Common.{◌≡◌, ◌<◌, ◌^◌, ℕ, zero, suc, Bool, false, List, [], ◌∷◌, length, map, take, drop, get_or, slice_index, slice_index_or, codes, arith, Bor, Option, Some, None, Result, IfSome, IfNone, sym, ap, refl, ◌∙◌, subst, inl, inr}
+use Rattle.std.proofs.Common.{◌≡◌, ◌<◌, ◌^◌, ℕ, zero, suc, Bool, false, List, [], ◌∷◌, length, map, take, drop, get_or, slice_index, slice_index_or, codes, arith, Bor, Option, Some, None, Result, IfSome, IfNone, sym, ap, refl, ◌∙◌, subst, inl, inr, eqb}
 use Rattle.std.specs.Prelude.{is_none, option_map, unwrap_or}
 use Rattle.std.specs.List.{position, position_or_len}
-use Rattle.std.proofs.lemmas.Bool.{lt-ltb}
+use Rattle.std.proofs.lemmas.Bool.{eq-eqb, false≢true, lt-ltb}
 use Rattle.std.proofs.lemmas.Option.{none-some, same_Some}
 use Rattle.std.proofs.lemmas.List.{get_or-take, length-map, length-take}
 use Rattle.std.proofs.lemmas.List.Quantifiers.{position-Some}
@@ -75,36 +75,30 @@ module _ (rows : List Row) (id : Text) where
         subst (λ (x : Text). digits_value 10 (without_leading_plus x) < 2 ^ 32) same small,
       )
 
+-- texts of two first letters are two
+differ : (a b : Text) → eqb (slice_index a 0) (slice_index b 0) ≡ false → a ≡ b → ⊥
+differ a b letters same = false≢true (sym letters ∙ eq-eqb _ _ (ap (λ (t : Text). slice_index t 0) same))
+
 pub only_view : (rows : List Row) → ((os : List Observer) (t r : ℕ) → HasObservers rows os →
     HasNumber rows (codes "target") t → HasNumber rows (codes "radius") r → ⊥) → (m : Map) →
     Names (codes "view") rows m → ⊥
-only_view rows never Accumulate e = let bad : ◌≡◌ {A = ℕ} 118 97 = ap (λ (t : Text). slice_index t 0) e in
-    absurd (omega arith)
-only_view rows never Basins e = let bad : ◌≡◌ {A = ℕ} 118 98 = ap (λ (t : Text). slice_index t 0) e in
-    absurd (omega arith)
-only_view rows never (Catchments gauges) e = let bad : ◌≡◌ {A = ℕ} 118 99 = ap (λ (t : Text). slice_index t 0) e.0 in
-    absurd (omega arith)
+only_view rows never Accumulate e = differ _ _ refl e
+only_view rows never Basins e = differ _ _ refl e
+only_view rows never (Catchments gauges) e = differ _ _ refl e.0
 only_view rows never (View os t r) n = never os.items t r n.1 n.2 n.3
-only_view rows never (Rise os r) n = let bad : ◌≡◌ {A = ℕ} 118 114 = ap (λ (t : Text). slice_index t 0) n.0 in
-    absurd (omega arith)
-only_view rows never (Several maps gauges) n = let bad : ◌≡◌ {A = ℕ} 118 109 = ap (λ (t : Text). slice_index t 0) n.0 in
-    absurd (omega arith)
-only_view rows never m e = let bad : ◌≡◌ {A = ℕ} 118 102 = ap (λ (t : Text). slice_index t 0) e in absurd (omega arith)
+only_view rows never (Rise os r) n = differ _ _ refl n.0
+only_view rows never (Several maps gauges) n = differ _ _ refl n.0
+only_view rows never m e = differ _ _ refl e
 
 pub only_rise : (rows : List Row) → ((r : ℕ) → HasNumber rows (codes "radius") r → ⊥) → (m : Map) →
     Names (codes "rise") rows m → ⊥
-only_rise rows never Accumulate e = let bad : ◌≡◌ {A = ℕ} 114 97 = ap (λ (t : Text). slice_index t 0) e in
-    absurd (omega arith)
-only_rise rows never Basins e = let bad : ◌≡◌ {A = ℕ} 114 98 = ap (λ (t : Text). slice_index t 0) e in
-    absurd (omega arith)
-only_rise rows never (Catchments gauges) e = let bad : ◌≡◌ {A = ℕ} 114 99 = ap (λ (t : Text). slice_index t 0) e.0 in
-    absurd (omega arith)
-only_rise rows never (View os t r) n = let bad : ◌≡◌ {A = ℕ} 114 118 = ap (λ (t : Text). slice_index t 0) n.0 in
-    absurd (omega arith)
+only_rise rows never Accumulate e = differ _ _ refl e
+only_rise rows never Basins e = differ _ _ refl e
+only_rise rows never (Catchments gauges) e = differ _ _ refl e.0
+only_rise rows never (View os t r) n = differ _ _ refl n.0
 only_rise rows never (Rise os r) n = never r n.2
-only_rise rows never (Several maps gauges) n = let bad : ◌≡◌ {A = ℕ} 114 109 = ap (λ (t : Text). slice_index t 0) n.0 in
-    absurd (omega arith)
-only_rise rows never m e = let bad : ◌≡◌ {A = ℕ} 114 102 = ap (λ (t : Text). slice_index t 0) e in absurd (omega arith)
+only_rise rows never (Several maps gauges) n = differ _ _ refl n.0
+only_rise rows never m e = differ _ _ refl e
 
 module _ {X : Type 0} (of : Text → Option X) where
   spelled : (words : List Text) (items : List X) (i : ℕ) (d : Text) → Spell of words items → i < length words →

@@ -82,12 +82,6 @@ lead_down a b n k e h =
     let a_is : a ≡ b + ((n - k) + k) = omega arith in
     rw a_is (down_by b k (n - k) ∙ ap (λ z. (b + (n - k)) * z + 0) (sym n_is))
 
-pub lead_whole : (a b n k : ℕ) → n ≡ abs_diff a b → 0 < n → k ≤ n → toward a b n k % n ≡ 0
-lead_whole a b n k e some h = elim (cases_lt a b) [
-  | inl low ↦ rw (lead_up a b n k (omega arith) h) (mod-mul-add (a + k) n 0 some)
-  | inr high ↦ rw (lead_down a b n k (omega arith) h) (mod-mul-add (b + (n - k)) n 0 some)
-]
-
 pub lead_up_is : (a b n k : ℕ) → b ≡ a + n → 0 < n → k ≤ n → toward a b n k / n ≡ a + k
 lead_up_is a b n k e some h = rw (lead_up a b n k e h) (div-mul-add (a + k) n 0 some)
 

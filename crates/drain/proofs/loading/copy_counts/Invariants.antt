@@ -1,8 +1,7 @@
 use Rattle.std.proofs.Common.{◌*◌}
-use Rattle.tile_maps.specs.Maps.{IsMadeUpTo}
-use Rattle.drain.specs.Search.{IsCopied}
+use Rattle.drain.specs.Search.{AreSetUpTo, IsCopied}
 use Rattle.drain.proofs.loading.copy_counts.Given as goal
 
 abbrev pub invariant-loop-row : goal.invariant-loop-row
-invariant-loop-row l = IsMadeUpTo l.window.bounds (IsCopied l.window.bounds l.counts)
-    (l.row * l.window.bounds.cols) l.list.items
+invariant-loop-row l =
+    AreSetUpTo l.window.bounds (IsCopied l.window.bounds l.counts) (l.row * l.window.bounds.cols) l.list.items

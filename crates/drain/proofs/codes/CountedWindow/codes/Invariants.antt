@@ -1,9 +1,8 @@
 use Rattle.std.proofs.Common.{◌*◌}
 use Rattle.drain.specs.Counts.{IsCheckedCode}
-use Rattle.tile_maps.specs.Maps.{IsMadeUpTo}
+use Rattle.drain.specs.Search.{AreSetUpTo}
 use Rattle.drain.proofs.codes.CountedWindow.codes.Given as goal
 
 abbrev pub invariant-loop-row : goal.invariant-loop-row
-invariant-loop-row l =
-    IsMadeUpTo l.self.bounds (IsCheckedCode l.self.terrain l.self.all) (l.row * l.self.bounds.cols)
-    l.codes.items
+invariant-loop-row l = AreSetUpTo l.self.bounds (IsCheckedCode l.self.terrain l.self.all)
+    (l.row * l.self.bounds.cols) l.codes.items
