@@ -8,25 +8,27 @@ all: relief
 relief:
 	tools/build
 
-# Proves all crates and those of tests, and runs all tests. `gate` tries the must-fail edits too, in the same run of `rt
-# ci`, so that nothing is proved twice.
-test: BUILD = --tests
-gate: BUILD = --edits
+# Proves all crates and those of tests, and runs all tests: those that take the program alone beside the proofs of the
+# crates of tests. `gate` tries the must-fail edits too, in the same run of `rt ci`, so that nothing is proved twice.
 test gate:
 	tests/documents
-	tools/build $(BUILD)
+	tools/build $(EDITS)
 	tests/progress ./relief
-	$(MAKE) --no-print-directory --jobs=4 --output-sync=target test-program
+	$(MAKE) --no-print-directory --jobs=4 --output-sync=target test-program TEST_CRATES=$(TEST_CRATES)
+test: TEST_CRATES = test-crates
+gate: EDITS = --edits
 
 # The longest first. tests/progress looks at the clock, and so runs alone.
 PROGRAM_TESTS = refusals gis certificate limits sights texts install recipes run catchments pictures tools
-.PHONY: test-program $(PROGRAM_TESTS:%=test-%)
-test-program: $(PROGRAM_TESTS:%=test-%)
+.PHONY: test-program test-crates $(PROGRAM_TESTS:%=test-%)
+test-program: $(TEST_CRATES) $(PROGRAM_TESTS:%=test-%)
+test-crates:
+	nice tools/build --tests
 test-run test-texts test-catchments test-certificate test-sights test-limits test-install: test-%:
 	tests/$* ./relief
 test-pictures test-tools: test-%:
 	tests/$*
-test-refusals:
+test-refusals: $(TEST_CRATES)
 	tests/refusals ./relief crates/*/out/*_tests
 test-recipes:
 	tools/recipes ./relief
