@@ -96,10 +96,10 @@ impl<'a, L: Links, N: EndNumbering> Paths<'a, L, N> {
         ensures { AreEndNumbers (L.list self.now.links.now)
             (N.numbers self.now.numbers.now).number found.new }
     {
+        // Of a node whose number is known the next one's is too, so `find` copies it: a test of the
+        // node's own would be guessed wrong at each second node.
         for node in 0..self.links.count() {
-            if found[node] == UNKNOWN {
-                self.find(found, node);
-            }
+            self.find(found, node);
         }
     }
 
