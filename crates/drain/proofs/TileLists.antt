@@ -40,7 +40,8 @@ place_index b row col =
 -- one entry more is set; `row` and `col` count from the first row and column of the bounds
 pub set_next : {X : Type 0} {b : Bounds} {Has : Place → X → Type 0} (row col index : ℕ) (list : List X) (x : X) →
     row < b.rows → col < b.cols → index ≡ row * b.cols + col → AreSetUpTo b Has (row * b.cols + col) list →
-    Has (make_place (b.top + row) (b.left + col)) x → AreSetUpTo b Has (row * b.cols + (col + 1)) (slice_set list index x)
+    Has (make_place (b.top + row) (b.left + col)) x →
+    AreSetUpTo b Has (row * b.cols + (col + 1)) (slice_set list index x)
 set_next {X} {b} {Has} row col index list x below beside is before here = record {
   size = length-set list index x ∙ before.size;
   each = λ q within early entry at.
@@ -52,8 +53,9 @@ set_next {X} {b} {Has} row col index list x below beside is before here = record
             let x_is = read ∙ ap (λ n. get_or (slice_set list index x) n entry) e
             ∙ get_or-set_same list index x entry (omega (arith, e, inside_list)) in
             rw (x_is, same) here)
-        | inr ne ↦ before.each q within (omega (arith, early, ne, is)) entry (slice_get_read list (length list) i entry refl
-            inside_list (read ∙ get_or-set_other list index i x entry ne))
+        | inr ne ↦ before.each q within (omega (arith, early, ne, is)) entry
+            (slice_get_read list (length list) i entry refl inside_list
+            (read ∙ get_or-set_other list index i x entry ne))
       ];
 }
   where

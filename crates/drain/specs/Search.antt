@@ -102,8 +102,8 @@ pub record AreWindowCounts (cols rows : ℕ) (entries : List (Option ℕ)) (b : 
   pub seen : AreShown (entry_or cols rows entries None) None b shown
   pub value : counts ≡ known_counts shown
 
--- The list has an entry for each place of the bounds, in row order. `Has` holds of each of the first
--- `end` entries at its place.
+-- The list has an entry for each place of the bounds, in row order. `Has` holds of each of the
+-- first `end` entries at its place.
 pub record AreSetUpTo {X : Type 0} (b : Bounds) (Has : Place → X → Type 0) (end : ℕ)
     (list : List X) : Type 0 where
   pub size : length list ≡ b.rows * b.cols
