@@ -2,13 +2,12 @@
 -- lowers them. A spot is a place in the window. A count is the fewest moves at one filled height,
 -- found so far, from a cell to one that drains at once, or unknown.
 -- Private.
-use Rattle.std.specs.Prelude.{◌≡◌, ◌≢◌, ℕ, ◌+◌, ◌*◌, ◌<◌, ◌≤◌, ℤ, List, All, map, sum, length, Option, None, Some, [], slice_get, slice_index_or, slice_set, unwrap_or}
+use Rattle.std.specs.Prelude.{◌≡◌, ◌≢◌, ℕ, ◌+◌, ◌<◌, ◌≤◌, ℤ, List, All, map, sum, length, Option, None, [], slice_index_or, slice_set, unwrap_or}
 use Rattle.terrain.specs.Raster.{Terrain}
 use Rattle.terrain.specs.Neighbours.{entry_or, Touches}
 use Rattle.terrain.specs.declared.place.Place.{Place}
 use Rattle.tiles.specs.declared.bounds.Bounds.{Bounds}
 use Rattle.tiles.specs.declared.window.Window.{Window}
-use Rattle.tiles.specs.Cutting.{IsInBounds, index_in}
 use Rattle.tiles.specs.Windows.{area_of, spot_index, IsSpot, IsInner, Shows, AreShown}
 use Rattle.drainage.specs.StepCounts.{known, no_count}
 
@@ -101,11 +100,3 @@ pub record AreWindowCounts (cols rows : ℕ) (entries : List (Option ℕ)) (b : 
   pub size : length shown ≡ area_of b
   pub seen : AreShown (entry_or cols rows entries None) None b shown
   pub value : counts ≡ known_counts shown
-
--- The list has an entry for each place of the bounds, in row order. `Has` holds of each of the
--- first `end` entries at its place.
-pub record AreSetUpTo {X : Type 0} (b : Bounds) (Has : Place → X → Type 0) (end : ℕ)
-    (list : List X) : Type 0 where
-  pub size : length list ≡ b.rows * b.cols
-  pub each : (p : Place) → IsInBounds b p → index_in b p < end → (entry : X) →
-      slice_get list (index_in b p) ≡ Some entry → Has p entry

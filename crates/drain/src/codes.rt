@@ -12,12 +12,12 @@ ghost use Rattle.terrain.specs.Raster.{IsHeight};
 ghost use Rattle.drainage.specs.StepCounts.{no_count};
 ghost use Rattle.terrain.specs.declared.place.Place.{Place};
 ghost use Rattle.tile_jobs.specs.Fault.{RefusesWorkers};
-ghost use Rattle.tile_maps.specs.Maps.{IsMadeUpTo};
+ghost use Rattle.tile_maps.specs.Maps.{AreSetUpTo, IsMadeUpTo};
 ghost use Rattle.tiles.specs.Cutting.{IsCutting, bounds_of, tile_count};
 ghost use Rattle.tiles.specs.Windows.{IsInner, Shows};
 ghost use Rattle.drain.specs.Codes.{AreAll, AreCodes, IsChecked, IsDownCode, IsOnwardCode, IsStillAround, IsTooHigh, stored_on};
 ghost use Rattle.drain.specs.Counts.{IsChange, IsCheckedCode};
-ghost use Rattle.drain.specs.Search.{AreSetUpTo, level_on};
+ghost use Rattle.drain.specs.Search.{level_on};
 
 use crate::changes::Change;
 use crate::input::RoundInput;

@@ -3,8 +3,8 @@
 ghost use Rattle.std.specs.Prelude.{◌≡◌, ◌+◌, ◌*◌, ◌<◌, length, map, IfOk};
 ghost use Rattle.tiles.specs.Cutting.{bounds_of};
 ghost use Rattle.tiles.specs.Windows.{area_of};
-ghost use Rattle.drain.specs.Search.{AreSetUpTo, AreWindowCounts, IsCopied};
-ghost use Rattle.tile_maps.specs.Maps.{IsMadeUpTo};
+ghost use Rattle.drain.specs.Search.{AreWindowCounts, IsCopied};
+ghost use Rattle.tile_maps.specs.Maps.{AreSetUpTo, IsMadeUpTo};
 
 use drainage::{NO_COUNT, StepCount};
 use std::alloc::{AllocError, Global};

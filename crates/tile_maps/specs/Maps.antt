@@ -16,6 +16,14 @@ pub record IsMadeUpTo {X : Type 0} (b : Bounds) (Has : Place → X → Type 0) (
   pub each : (p : Place) → IsInBounds b p → index_in b p < end → (entry : X) →
       slice_get list (index_in b p) ≡ Some entry → Has p entry
 
+-- The list has an entry for each place of the bounds, in row order. `Has` holds of each of the
+-- first `end` entries at its place.
+pub record AreSetUpTo {X : Type 0} (b : Bounds) (Has : Place → X → Type 0) (end : ℕ)
+    (list : List X) : Type 0 where
+  pub size : length list ≡ b.rows * b.cols
+  pub each : (p : Place) → IsInBounds b p → index_in b p < end → (entry : X) →
+      slice_get list (index_in b p) ≡ Some entry → Has p entry
+
 -- The list has an entry for each place of the tile, in row order. `Has` holds of each entry at its
 -- place.
 pub record IsMadeTile {X : Type 0} (c : Cutting) (tile : ℕ) (Has : Place → X → Type 0)

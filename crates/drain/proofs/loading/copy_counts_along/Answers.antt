@@ -1,6 +1,7 @@
 use Rattle.std.proofs.Common.{get_or, ap, ◌∙◌}
 use Rattle.drainage.specs.StepCounts.{known}
-use Rattle.drain.proofs.TileLists.{copied, set_next}
+use Rattle.tile_maps.proofs.TileLists.{set_next}
+use Rattle.drain.proofs.TileLists.{copied}
 use Rattle.drain.proofs.loading.copy_counts_along.Goals as goal
 
 pub loop-col-preserved : goal.loop-col-preserved

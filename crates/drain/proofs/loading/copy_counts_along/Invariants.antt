@@ -1,5 +1,6 @@
 use Rattle.std.proofs.Common.{◌+◌, ◌*◌}
-use Rattle.drain.specs.Search.{AreSetUpTo, IsCopied}
+use Rattle.tile_maps.specs.Maps.{AreSetUpTo}
+use Rattle.drain.specs.Search.{IsCopied}
 use Rattle.drain.proofs.loading.copy_counts_along.Given as goal
 
 abbrev pub invariant-loop-col : goal.invariant-loop-col

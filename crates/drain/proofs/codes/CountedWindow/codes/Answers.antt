@@ -1,6 +1,6 @@
 use Rattle.std.proofs.Common.{◌≡◌, ap, arith}
 use Rattle.drain.specs.Codes.{CountedSpots}
-use Rattle.drain.proofs.TileLists.{set_all}
+use Rattle.tile_maps.proofs.TileLists.{set_all}
 use Rattle.drain.proofs.codes.CountedWindow.codes.Goals as goal
 
 pub returns : goal.returns

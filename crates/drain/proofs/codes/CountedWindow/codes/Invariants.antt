@@ -1,6 +1,6 @@
 use Rattle.std.proofs.Common.{◌*◌}
 use Rattle.drain.specs.Counts.{IsCheckedCode}
-use Rattle.drain.specs.Search.{AreSetUpTo}
+use Rattle.tile_maps.specs.Maps.{AreSetUpTo}
 use Rattle.drain.proofs.codes.CountedWindow.codes.Given as goal
 
 abbrev pub invariant-loop-row : goal.invariant-loop-row

@@ -1,7 +1,7 @@
 use Rattle.std.proofs.Common.{◌≡◌, ◌+◌, ◌*◌, ◌<◌, subst, arith}
 use Rattle.terrain.proofs.Places.{make_place}
 use Rattle.drain.specs.Codes.{CountedSpots}
-use Rattle.drain.proofs.TileLists.{set_next}
+use Rattle.tile_maps.proofs.TileLists.{set_next}
 use Rattle.drain.proofs.codes.CountedWindow.codes_along.Goals as goal
 
 pub loop-col-preserved : goal.loop-col-preserved
