@@ -1,6 +1,6 @@
 -- A word with a scaled value is NODATA exactly if the NODATA word has that value too. If the value
 -- is another height, the word means a cell of that height.
-use Rattle.std.proofs.Common.{◌≡◌, ℕ, Bool, Option, true, false, cond, Some, ℤ, refl, ap, sym, ◌∙◌, inl, inr}
+use Rattle.std.proofs.Common.{◌≡◌, ℕ, Bool, Option, true, false, cond, None, Some, ℤ, refl, ap, sym, ◌∙◌, inl, inr}
 use Rattle.std.proofs.lemmas.Bool.{cases_Bool}
 use Rattle.std.proofs.lemmas.Bool.Decides.{Decides-int_eq}
 use Rattle.std.proofs.lemmas.Slice.Eq.{bytes_eq-Decides}
@@ -22,6 +22,13 @@ module _ (d : ℕ) (nodata w : Word) (z : ℤ) where
             left ∙ sym (rw value reflexive)
         | inr other ↦ rw (other, e)
       ]
+
+  -- a word whose scaled value is NODATA's value means a cell without data
+  pub meaning_of_nodata : scaled_value d w ≡ Some z → same_value (Some z) (scaled_value d nodata) ≡ true →
+      Cell None ≡ meaning_of d nodata w
+  meaning_of_nodata e same =
+      let is = nodata_by_value e ∙ same in
+      rw is refl
 
   -- a word whose scaled value is a height other than NODATA's value means a cell of that height
   pub meaning_of_height : scaled_value d w ≡ Some z → same_value (Some z) (scaled_value d nodata) ≡ false →

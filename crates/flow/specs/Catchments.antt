@@ -2,16 +2,15 @@
 -- fault of a list of gauges, and which errors `catchments` may return.
 -- Source: Jenson and Domingue (1988), watersheds of given cells.
 -- Trust base.
-use Rattle.std.specs.Prelude.{◌≡◌, ◌↔◌, ◌⊎◌, ℕ, ◌<◌, ◌==◌, false, List, map, Option, Some, None, option_map, unwrap_or, Result, Err}
+use Rattle.std.specs.Prelude.{◌≡◌, ◌↔◌, ◌⊎◌, ℕ, ◌<◌, ◌==◌, nat_lt, if◌then◌else◌, false, List, length, map, Option, Some, None, unwrap_or, Result, Err}
 use Rattle.std.specs.List.{filter, find, list_any, position_from, range_with_len}
 use Rattle.std.specs.Option.{option_map_or}
 use Rattle.terrain.specs.Raster.{Terrain}
 use Rattle.terrain.specs.Neighbours.{is_place}
-use Rattle.terrain.specs.Sinks.{sinks_fault}
+use Rattle.terrain.specs.Faults.{first_fault, place_fault}
+use Rattle.terrain.specs.Sinks.{most_sinks}
 use Rattle.terrain.specs.Ways.{places}
 use Rattle.terrain.specs.declared.place.Place.{Place}
-use Rattle.terrain.specs.declared.sinks.SinkFault.{SinkFault}
-use Rattle.terrain.specs.declared.sinks.SinkFault.TheVariants as sink
 use Rattle.tile_jobs.specs.declared.TheConstants.{MOST_WORKERS}
 use Rattle.tile_jobs.specs.declared.JobFault.TheVariants.{Memory, BadWorkers, NoThread}
 use Rattle.drainage.specs.Following.{Directed, code_at, follow, moves}
@@ -41,16 +40,12 @@ AreCatchments d gauges values = IsMapOf d (catchment d gauges) values
 abbrev pub outlets : Directed → List Place
 outlets d = filter (λ p. option_map_or (λ c. c == 0) (code_at d p) false) (places d.cols d.rows)
 
--- The fault of gauges that corresponds to a fault of sinks at the same places.
-abbrev pub fault_of_gauge : SinkFault → GaugeFault
-fault_of_gauge (sink.Outside i) = Outside i
-fault_of_gauge (sink.OnNodata i) = OnNodata i
-fault_of_gauge sink.TooManySinks = TooManyGauges
-fault_of_gauge sink.Memory = Jobs Memory
-
--- The fault of a list of gauges, if it has one: that of sinks at these places.
+-- The fault of a list of gauges, if any: more entries than a list of sinks may have, repeats
+-- counted; else the fault of the first gauge outside the grid or without data.
 abbrev pub gauges_fault : Terrain → List Place → Option GaugeFault
-gauges_fault t gauges = option_map fault_of_gauge (sinks_fault t gauges)
+gauges_fault t gauges =
+    if nat_lt most_sinks (length gauges) then Some TooManyGauges
+    else first_fault (place_fault Outside OnNodata t) 0 gauges
 
 -- How catchments fail: with the gauges' fault if there is one. Otherwise with `BadWorkers`, exactly
 -- for 0 or more than `MOST_WORKERS` workers, or for refused memory or, with several workers, for a

@@ -1,5 +1,6 @@
 -- Codes cut at gauges: the codes of a grid with 0, an outlet's code, written at each gauge. The
--- numbers of the cells that gauges name, by the cells' indexes in row order.
+-- numbers of the cells that gauges name, by the cells' indexes in row order. The fault of gauges
+-- that a fault of sinks corresponds to.
 -- Private.
 use Rattle.std.specs.Prelude.{◌≡◌, ℕ, ◌==◌, nat_eq, true, false, List, length, Option, Some, IsSome, unwrap_or}
 use Rattle.std.specs.HashMap as hash
@@ -7,7 +8,19 @@ use Rattle.std.specs.HashMap.{HashMap}
 use Rattle.std.specs.List.{list_any, position_from}
 use Rattle.terrain.specs.Neighbours.{entry_at, index_of, is_place}
 use Rattle.terrain.specs.declared.place.Place.{Place}
+use Rattle.terrain.specs.declared.sinks.SinkFault.{SinkFault}
+use Rattle.terrain.specs.declared.sinks.SinkFault.TheVariants as sink
+use Rattle.tile_jobs.specs.declared.JobFault.TheVariants.{Memory}
 use Rattle.flow.specs.Numbering.{EndNumbers}
+use Rattle.flow.specs.declared.gauges.GaugeFault.{GaugeFault}
+use Rattle.flow.specs.declared.gauges.GaugeFault.TheVariants.{Outside, OnNodata, TooManyGauges, Jobs}
+
+-- The fault of gauges that corresponds to a fault of sinks at the same places.
+abbrev pub fault_of_gauge : SinkFault → GaugeFault
+fault_of_gauge (sink.Outside i) = Outside i
+fault_of_gauge (sink.OnNodata i) = OnNodata i
+fault_of_gauge sink.TooManySinks = TooManyGauges
+fault_of_gauge sink.Memory = Jobs Memory
 
 -- Each gauge has a code.
 abbrev pub HaveCodes : ℕ → ℕ → List (Option ℕ) → List Place → Type 0

@@ -1,11 +1,13 @@
 //! Finds the first fault of a list of gauges, and numbers the cells that gauges name.
-ghost use Rattle.std.specs.Prelude.{◌≡◌, ℕ, ◌*◌, ◌≤◌, length, nat_eq, IfOk, option_map};
+ghost use Rattle.std.specs.Prelude.{◌≡◌, ℕ, ◌*◌, ◌≤◌, length, nat_eq, IfOk};
 ghost use Rattle.std.specs.HashMap as hash;
-ghost use Rattle.terrain.specs.Sinks.{first_sink_fault, most_sinks, sink_fault_of};
+ghost use Rattle.terrain.specs.Faults.{first_fault, place_fault};
+ghost use Rattle.terrain.specs.Sinks.{most_sinks};
 ghost use Rattle.std.specs.List.{All};
 ghost use Rattle.tiles.specs.Cutting.{Cuts, IsWithin};
-ghost use Rattle.flow.specs.Catchments.{fault_of_gauge, gauges_fault};
-ghost use Rattle.flow.specs.CutCodes.{number_of_index};
+ghost use Rattle.flow.specs.Catchments.{gauges_fault};
+ghost use Rattle.flow.specs.CutCodes.{fault_of_gauge, number_of_index};
+ghost use Rattle.flow.specs.declared.gauges.GaugeFault.TheVariants.{Outside, OnNodata};
 
 use crate::end_numbers::EndNumbering;
 use drainage::Directions;
@@ -80,7 +82,7 @@ pub fn gauges_fault(grid: &Grid, gauges: &[Place]) -> Option<GaugeFault>
 /// Returns the fault of one gauge, if any; `index` is its position in the list.
 fn gauge_fault_at(d: &Directions, tiling: &Tiling, gauge: Place, index: u32) -> Option<GaugeFault>
     requires { Cuts tiling.now d.now.terrain }
-    ensures { result ≡ option_map fault_of_gauge (sink_fault_of d.now.terrain index gauge) }
+    ensures { result ≡ place_fault Outside OnNodata d.now.terrain index gauge }
 {
     if gauge.row >= tiling.rows() || gauge.col >= tiling.cols() {
         return Some(GaugeFault::Outside(index));
@@ -95,7 +97,7 @@ fn gauge_fault_at(d: &Directions, tiling: &Tiling, gauge: Place, index: u32) -> 
 fn first_bad_gauge(d: &Directions, tiling: &Tiling, gauges: &[Place]) -> Option<GaugeFault>
     requires cuts { Cuts tiling.now d.now.terrain }
     requires few { length gauges.now ≤ most_sinks }
-    ensures { result ≡ option_map fault_of_gauge (first_sink_fault d.now.terrain 0 gauges.now) }
+    ensures { result ≡ first_fault (place_fault Outside OnNodata d.now.terrain) 0 gauges.now }
 {
     for (index, gauge) in gauges.iter().enumerate() {
         let fault = gauge_fault_at(d, tiling, *gauge, index as u32);

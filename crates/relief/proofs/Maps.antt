@@ -22,7 +22,7 @@ use Rattle.request.specs.declared.map.Map.TheVariants.{Fill, Flow, Accumulate, B
 use Rattle.request.specs.declared.map.DrainageMap.{DrainageMap}
 use Rattle.request.specs.declared.map.DrainageMap.TheVariants as drainage
 use Rattle.request.specs.Laws.{AreSame}
-use Rattle.relief.specs.MapText.{IsDrainage, IsDrainageText, IsMapText, IsMapOfText, JoinsTexts}
+use Rattle.relief.specs.MapText.{HasValues, IsDrainage, IsDrainageText, IsMapText, IsMapOfText, JoinsTexts}
 
 one_list_of_heights : (t : Terrain) (xs ys : List (Option ℤ)) → IsFilled t xs → IsFilled t ys →
     xs ≡ ys
@@ -69,11 +69,6 @@ one_drainage g d e a b =
     ap (λ cols. directed cols d.rows d.codes) (a.same_size.0 ∙ sym b.same_size.0)
     ∙ ap (λ rows. directed e.cols rows d.codes) (a.same_size.1 ∙ sym b.same_size.1)
     ∙ ap (λ cs. directed e.cols e.rows cs) codes
-
--- `text` has for each data cell the number that `value` gives for it on the grid's directions
-abbrev HasValues : Raster → (Directed → Place → ℕ) → List ℕ → Type 0
-HasValues g value text = (d : Directed) × (values : List (Option ℕ)) × IsDrainage g d
-    × IsMapOf d (value d) values × (text ≡ counts_text g values)
 
 one_map_of_values : (g : Raster) (value : Directed → Place → ℕ) (text other : List ℕ) →
     HasValues g value text → HasValues g value other → text ≡ other

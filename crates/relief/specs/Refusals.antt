@@ -2,12 +2,13 @@
 -- cells, or a failed read; too many tiles; faulty sinks; faulty gauges, observers, target height or
 -- radius; other refused memory or a refused thread; a failed write.
 -- Trust base.
-use Rattle.std.specs.Prelude.{◌≡◌, ℕ, ◌<◌, nat_lt, ⊤, if◌then◌else◌, List, Option, None, Some, option_map}
+use Rattle.std.specs.Prelude.{◌≡◌, ℕ, ◌*◌, ◌<◌, nat_lt, ⊤, if◌then◌else◌, List, Option, None, Some, option_map}
+use Rattle.std.specs.Int.{div_ceil}
 use Rattle.std.specs.Option.{option_or}
 use Rattle.terrain.specs.Raster.{Raster}
 use Rattle.terrain.specs.Sinks.{sinks_fault}
 use Rattle.ascii_grid.specs.GridText.{IsGridText, IsRefusal}
-use Rattle.tiles.specs.Cutting.{tile_count, most_tiles}
+use Rattle.tiles.specs.Cutting.{most_tiles}
 use Rattle.tiles.specs.declared.tiling.TilingFault.TheVariants.{TooManyTiles}
 use Rattle.tile_jobs.specs.declared.JobFault.TheVariants as jobs
 use Rattle.flow.specs.Catchments.{gauges_fault}
@@ -22,7 +23,7 @@ use Rattle.request.specs.Request.{Request}
 
 -- The number of tiles into which a grid is cut, for tiles of side `side`.
 abbrev pub tiles_of : Raster → ℕ → ℕ
-tiles_of g side = tile_count (record { cols = g.terrain.cols; rows = g.terrain.rows; side = side })
+tiles_of g side = div_ceil g.terrain.cols side * div_ceil g.terrain.rows side
 
 -- The fault of observers, target height or radius of a viewshed, or of a rise, whose lowest target
 -- has height 0; other maps have none.

@@ -75,7 +75,7 @@ module _ (rows : List Row) (id : Text) where
         subst (λ (x : Text). digits_value 10 (without_leading_plus x) < 2 ^ 32) same small,
       )
 
--- texts of two first letters are two
+-- texts whose first letters differ are different
 differ : (a b : Text) → eqb (slice_index a 0) (slice_index b 0) ≡ false → a ≡ b → ⊥
 differ a b letters same = false≢true (sym letters ∙ eq-eqb _ _ (ap (λ (t : Text). slice_index t 0) same))
 

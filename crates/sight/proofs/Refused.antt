@@ -1,20 +1,24 @@
 -- An error that is the first fault of observers, target height and radius satisfies `RefusesSight`.
 -- Without a fault, observers are inside the grid; their number, their eyes, the target height and
 -- the radius are within the limits.
-use Rattle.std.proofs.Common.{◌≡◌, ◌+◌, ◌||◌, ℕ, Bool, true, false, cond, ltb, is_none, List, [], ◌∷◌, length, Option, None, Some, option_map, Err, arith, refl, ◌<◌, ◌≤◌, zero, suc, ◌&&◌, get_or}
+use Rattle.std.proofs.Common.{◌≡◌, ◌+◌, ◌||◌, ℕ, Bool, true, false, not, cond, ltb, is_none, List, [], ◌∷◌, length, Option, None, Some, option_map, Err, arith, refl, ◌<◌, ◌≤◌, zero, suc, ◌&&◌, get_or}
 use Rattle.std.specs.Option.{option_or}
 use Rattle.std.specs.List.{position_from}
 use Rattle.terrain.specs.Raster.{Terrain}
 use Rattle.terrain.specs.Neighbours.{height_at, IsInside}
+use Rattle.terrain.specs.Faults.{first_fault}
 use Rattle.tile_jobs.specs.declared.JobFault.{JobFault}
 use Rattle.tile_jobs.specs.declared.JobFault.TheVariants.{NoThread}
 use Rattle.sightlines.specs.Sight.{place_of}
-use Rattle.sight.specs.Refusals.{is_high, is_outside, place_fault_of, place_fault, observers_fault, RefusesSight}
+use Rattle.sight.specs.Refusals.{is_high, observer_fault, observers_fault, RefusesSight}
 use Rattle.terrain.specs.declared.observer.Observer.{Observer}
 use Rattle.sight.specs.declared.fault.SightFault.{SightFault}
 use Rattle.sight.specs.declared.fault.SightFault.TheVariants.{BadEye, Jobs, Outside, OnNodata, TooManyObservers, BadRadius}
 use Rattle.std.proofs.lemmas.Bool.{ltb-true, ltb-false, and_parts, or_parts, not-false}
 use Rattle.sight.specs.Viewed.{IsFaultless}
+
+abbrev is_outside : Terrain → Observer → Bool
+is_outside t o = not (ltb o.row t.rows && ltb o.col t.cols)
 
 abbrev pub IsNot : {F : Type 0} → F → Option F → Type 0
 IsNot f o = o ≡ Some f → ⊥
@@ -33,7 +37,7 @@ module _ (f : JobFault) where
   not_eye None e = absurd cc
   not_eye (Some i) e = absurd cc
 
-  not_place : (t : Terrain) (i : ℕ) (os : List Observer) → IsNot (Jobs f) (place_fault t i os)
+  not_place : (t : Terrain) (i : ℕ) (os : List Observer) → IsNot (Jobs f) (first_fault (observer_fault t) i os)
   not_place t i [] = λ e. absurd cc
   not_place t i (o ∷ rest) =
       not_or _ _ (not_if (is_outside t o) _ _ (λ e. absurd cc)
@@ -77,7 +81,7 @@ no_position p i (x ∷ xs) e zero d h = (none_if (p x) i (position_from p (i + 1
 no_position p i (x ∷ xs) e (suc k) d h =
     no_position p (i + 1) xs (none_if (p x) i (position_from p (i + 1) xs) e).1 k d (omega arith)
 
-inside_from : (t : Terrain) (i : ℕ) (o : Observer) → is_none (place_fault_of t i o) ≡ true → IsInside t (place_of o)
+inside_from : (t : Terrain) (i : ℕ) (o : Observer) → is_none (observer_fault t i o) ≡ true → IsInside t (place_of o)
 inside_from t i o e =
     let parts =
     none_if (is_outside t o) (Outside i) (cond (is_none (height_at t (place_of o))) (Some (OnNodata i)) None) e in
@@ -86,13 +90,13 @@ inside_from t i o e =
     (ltb-true o.row t.rows both.0, ltb-true o.col t.cols both.1)
 
 -- if no observer's place has a fault, all observers are inside the grid
-no_place_fault : (t : Terrain) (i : ℕ) (os : List Observer) → is_none (place_fault t i os) ≡ true →
+no_place_fault : (t : Terrain) (i : ℕ) (os : List Observer) → is_none (first_fault (observer_fault t) i os) ≡ true →
     (k : ℕ) (d : Observer) → k < length os → IsInside t (place_of (get_or os k d))
 no_place_fault t i [] e k d h = absurd (omega arith)
 no_place_fault t i (o ∷ rest) e zero d h =
-    inside_from t i o (none_or (place_fault_of t i o) (place_fault t (i + 1) rest) e).0
+    inside_from t i o (none_or (observer_fault t i o) _ e).0
 no_place_fault t i (o ∷ rest) e (suc k) d h =
-    no_place_fault t (i + 1) rest (none_or (place_fault_of t i o) (place_fault t (i + 1) rest) e).1 k d (omega arith)
+    no_place_fault t (i + 1) rest (none_or (observer_fault t i o) _ e).1 k d (omega arith)
 
 pub record Lawful (t : Terrain) (os : List Observer) (target radius : ℕ) : Type 0 where
   pub few : length os ≤ 1024
@@ -106,7 +110,7 @@ pub lawful_from : (t : Terrain) (os : List Observer) (target radius : ℕ) → I
     Lawful t os target radius
 lawful_from t os target radius e =
     let eyes = option_map (λ i. BadEye (Some i)) (position_from (λ (o : Observer). is_high o.eye) 0 os) in
-    let reach = cond (ltb radius 1 || ltb 8192 radius) (Some BadRadius) (place_fault t 0 os) in
+    let reach = cond (ltb radius 1 || ltb 8192 radius) (Some BadRadius) (first_fault (observer_fault t) 0 os) in
     let many =
     none_if (ltb 1024 (length os)) TooManyObservers
     (cond (is_high target) (Some (BadEye None)) (option_or eyes reach)) e in
@@ -115,7 +119,7 @@ lawful_from t os target radius e =
     let low =
     no_position (λ (o : Observer). is_high o.eye) 0 os
     (none_map (λ i. BadEye (Some i)) (position_from (λ (o : Observer). is_high o.eye) 0 os) rest.0) in
-    let far = none_if (ltb radius 1 || ltb 8192 radius) BadRadius (place_fault t 0 os) rest.1 in
+    let far = none_if (ltb radius 1 || ltb 8192 radius) BadRadius (first_fault (observer_fault t) 0 os) rest.1 in
     let ends = or_parts (ltb radius 1) (ltb 8192 radius) far.0 in
     record {
       few = ltb-false 1024 (length os) many.0;

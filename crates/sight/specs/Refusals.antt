@@ -1,11 +1,11 @@
 -- The first fault of observers, target height and radius, and which errors a viewshed may give.
 -- Source: this project.
 -- Trust base.
-use Rattle.std.specs.Prelude.{◌≡◌, ◌↔◌, ◌⊎◌, Result, Err, ℕ, ◌+◌, ◌<◌, Bool, ◌&&◌, ◌||◌, not, nat_lt, is_none, if◌then◌else◌, List, [], ◌∷◌, length, Option, None, Some, option_map}
+use Rattle.std.specs.Prelude.{◌≡◌, ◌↔◌, ◌⊎◌, Result, Err, ℕ, ◌<◌, Bool, ◌||◌, nat_lt, if◌then◌else◌, List, length, Option, None, Some, option_map}
 use Rattle.std.specs.Option.{option_or}
 use Rattle.std.specs.List.{position_from}
 use Rattle.terrain.specs.Raster.{Terrain}
-use Rattle.terrain.specs.Neighbours.{height_at}
+use Rattle.terrain.specs.Faults.{first_fault, place_fault}
 use Rattle.sightlines.specs.Sight.{highest_eye, longest_radius, place_of}
 use Rattle.sight.specs.Viewshed.{most_observers}
 use Rattle.terrain.specs.declared.observer.Observer.{Observer}
@@ -17,22 +17,9 @@ use Rattle.tile_jobs.specs.declared.JobFault.TheVariants.{Memory, BadWorkers, No
 abbrev pub is_high : ℕ → Bool
 is_high n = nat_lt highest_eye n
 
--- The observer is outside the terrain.
-abbrev pub is_outside : Terrain → Observer → Bool
-is_outside t o = not (nat_lt o.row t.rows && nat_lt o.col t.cols)
-
 -- The fault of observer `o`, of index i, if the observer is outside the terrain or on NODATA.
-abbrev pub place_fault_of : Terrain → ℕ → Observer → Option SightFault
-place_fault_of t i o =
-    if is_outside t o then Some (Outside i)
-    else if is_none (height_at t (place_of o)) then Some (OnNodata i)
-    else None
-
--- The fault of the first observer outside the terrain or on NODATA. The list's first observer has
--- index i.
-abbrev pub place_fault : Terrain → ℕ → List Observer → Option SightFault
-place_fault t i [] = None
-place_fault t i (o ∷ rest) = option_or (place_fault_of t i o) (place_fault t (i + 1) rest)
+abbrev pub observer_fault : Terrain → ℕ → Observer → Option SightFault
+observer_fault t i o = place_fault Outside OnNodata t i (place_of o)
 
 -- The first fault of observers, target height and radius over a terrain. The order: too many
 -- observers, the target height, the first eye too high, the radius, the first bad place.
@@ -43,7 +30,7 @@ observers_fault t observers target radius =
     else option_or (option_map (λ i. BadEye (Some i))
     (position_from (λ (o : Observer). is_high o.eye) 0 observers))
     (if nat_lt radius 1 || nat_lt longest_radius radius then Some BadRadius
-    else place_fault t 0 observers)
+    else first_fault (observer_fault t) 0 observers)
 
 -- If there is a `fault`, the result is this error. Otherwise the result is `BadWorkers` exactly for
 -- 0 or above 64 workers. Any other error is want of memory or, with several workers, of a thread.

@@ -2,7 +2,8 @@
 ghost use Rattle.std.specs.Prelude.{◌≡◌, ◌<◌, ◌≤◌, length, IfSome};
 ghost use Rattle.std.specs.List.{position_from};
 ghost use Rattle.sight.specs.Viewshed.{most_observers};
-ghost use Rattle.sight.specs.Refusals.{is_high, place_fault, place_fault_of, observers_fault};
+ghost use Rattle.terrain.specs.Faults.{first_fault};
+ghost use Rattle.sight.specs.Refusals.{is_high, observer_fault, observers_fault};
 
 use crate::fault::SightFault;
 use terrain::{Grid, Observer, Place};
@@ -23,8 +24,8 @@ fn bad_eye(observers: &[Observer]) -> Option<usize>
     observers.iter().position(|o| o.eye > HIGHEST_EYE)
 }
 
-fn place_fault_at(grid: &Grid, observer: &Observer, index: u32) -> Option<SightFault>
-    ensures { result ≡ place_fault_of grid.now.terrain index observer.now }
+fn observer_fault_at(grid: &Grid, observer: &Observer, index: u32) -> Option<SightFault>
+    ensures { result ≡ observer_fault grid.now.terrain index observer.now }
 {
     if observer.row >= grid.rows() || observer.col >= grid.cols() {
         return Some(SightFault::Outside(index));
@@ -42,10 +43,10 @@ fn place_fault_at(grid: &Grid, observer: &Observer, index: u32) -> Option<SightF
 /// Returns the fault of the first observer outside the grid or on NODATA.
 fn bad_place(grid: &Grid, observers: &[Observer]) -> Option<SightFault>
     requires { length observers.now ≤ most_observers }
-    ensures { result ≡ place_fault grid.now.terrain 0 observers.now }
+    ensures { result ≡ first_fault (observer_fault grid.now.terrain) 0 observers.now }
 {
     for (index, observer) in observers.iter().enumerate() {
-        let fault = place_fault_at(grid, observer, index as u32);
+        let fault = observer_fault_at(grid, observer, index as u32);
         if fault.is_some() {
             return fault;
         }

@@ -43,31 +43,25 @@ pub record Crossing : Type 0 where
   pub far : Place
   pub far_weight : ℕ
 
--- The crossing with the k-th of n columns from p to q, m n-ths of a row south of the near cell.
+-- The crossing with a column or a row of cells, x n-ths of a cell from its first. `cell` gives the
+-- column's or row's cells by their indices.
+abbrev pub crossing_at : (ℕ → Place) → ℕ → ℕ → Crossing
+crossing_at cell n x = record {
+  near = cell (x / n);
+  near_weight = n - x % n;
+  far = cell (x / n + 1);
+  far_weight = x % n;
+}
+
+-- The crossing with the k-th of n columns from p to q.
 abbrev pub column_crossing : Place → Place → ℕ → ℕ → Crossing
 column_crossing p q n k =
-    let col = onward p.col q.col k in
-    let row = toward p.row q.row n k / n in
-    let m = toward p.row q.row n k % n in
-    record {
-      near = record { row = row; col = col };
-      near_weight = n - m;
-      far = record { row = row + 1; col = col };
-      far_weight = m;
-    }
+    crossing_at (λ i. record { row = i; col = onward p.col q.col k }) n (toward p.row q.row n k)
 
--- The crossing with the k-th of n rows from p to q, m n-ths of a column east of the near cell.
+-- The crossing with the k-th of n rows from p to q.
 abbrev pub row_crossing : Place → Place → ℕ → ℕ → Crossing
 row_crossing p q n k =
-    let row = onward p.row q.row k in
-    let col = toward p.col q.col n k / n in
-    let m = toward p.col q.col n k % n in
-    record {
-      near = record { row = row; col = col };
-      near_weight = n - m;
-      far = record { row = row; col = col + 1 };
-      far_weight = m;
-    }
+    crossing_at (λ i. record { row = onward p.row q.row k; col = i }) n (toward p.col q.col n k)
 
 -- Weight times height. It is 0 for weight 0, and None for NODATA of a weight above 0.
 abbrev pub weigh : Terrain → Place → ℕ → Option ℤ
@@ -87,17 +81,18 @@ sight e f n k = (e *ℤ pos (n - k)) +ℤ (f *ℤ pos k)
 abbrev pub blocks : Terrain → Crossing → ℤ → Bool
 blocks t c z = option_map_or (λ g. int_lt z g) (ground t c) false
 
+-- One of the n - 1 crossings between the ends of a line from elevation e to elevation f blocks.
+abbrev pub any_blocks : Terrain → (ℕ → ℕ → Crossing) → ℕ → ℤ → ℤ → Bool
+any_blocks t crossing n e f =
+    list_any (λ k. blocks t (crossing n k) (sight e f n k)) (range_with_len 1 (n - 1))
+
 -- A crossing with a column between the two places blocks.
 abbrev pub column_blocks : Terrain → Place → Place → ℤ → ℤ → Bool
-column_blocks t p q e f =
-    let n = abs_diff p.col q.col in
-    list_any (λ k. blocks t (column_crossing p q n k) (sight e f n k)) (range_with_len 1 (n - 1))
+column_blocks t p q = any_blocks t (column_crossing p q) (abs_diff p.col q.col)
 
 -- A crossing with a row between the two places blocks.
 abbrev pub row_blocks : Terrain → Place → Place → ℤ → ℤ → Bool
-row_blocks t p q e f =
-    let n = abs_diff p.row q.row in
-    list_any (λ k. blocks t (row_crossing p q n k) (sight e f n k)) (range_with_len 1 (n - 1))
+row_blocks t p q = any_blocks t (row_crossing p q) (abs_diff p.row q.row)
 
 -- The target is within the radius.
 abbrev pub is_near : Place → Place → ℕ → Bool

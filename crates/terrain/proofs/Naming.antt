@@ -1,6 +1,6 @@
 -- If a list of sinks has no fault, each of them is a data cell. A lawful grid (all parts within
 -- limits, no height equal to the NODATA value) stays lawful with these, each once, as its sinks.
-use Rattle.std.proofs.Common.{◌≡◌, ◌+◌, ℕ, ℤ, zero, suc, true, false, not, ◌&&◌, List, [], ◌∷◌, length, Option, None, Some, fold, refl, sym, ap, subst, ◌∙◌, inl, inr, arith, is_none, is_some}
+use Rattle.std.proofs.Common.{◌≡◌, ◌+◌, ℕ, ℤ, zero, suc, Bool, true, false, not, ◌&&◌, List, [], ◌∷◌, length, Option, None, Some, fold, refl, sym, ap, subst, ◌∙◌, inl, inr, arith, is_none, is_some}
 use Rattle.std.specs.Prelude.{nat_lt, if◌then◌else◌}
 use Rattle.std.specs.List.{All, list_any}
 use Rattle.std.specs.Option.{option_or}
@@ -8,47 +8,46 @@ use Rattle.std.proofs.lemmas.Bool.{and_parts, cases_Bool, cond-true, cond-false,
 use Rattle.std.proofs.lemmas.List.Elements.{All-append}
 use Rattle.terrain.specs.Raster.{Terrain, Raster, IsLawful}
 use Rattle.terrain.specs.Neighbours.{IsInside, IsDataCell, height_at, is_place}
-use Rattle.terrain.specs.Sinks.{named_once, each_once, sink_fault_of, first_sink_fault, sinks_fault, most_sinks, raster_with_sinks}
+use Rattle.terrain.specs.Faults.{first_fault, place_fault}
+use Rattle.terrain.specs.Sinks.{named_once, each_once, sinks_fault, most_sinks, raster_with_sinks}
 use Rattle.terrain.specs.declared.place.Place.{Place}
 use Rattle.terrain.specs.declared.sinks.SinkFault.{SinkFault}
 use Rattle.terrain.specs.declared.sinks.SinkFault.TheVariants.{Outside, OnNodata, TooManySinks}
 use Rattle.terrain.proofs.OtherCells.{lawful_with_parts}
 
-none_of_both : (a b : Option SinkFault) → option_or a b ≡ None → (a ≡ None) × (b ≡ None)
-none_of_both None b h = (refl, h)
-none_of_both (Some f) b h = absurd (cc)
-
 abbrev pub IsSound : Terrain → Place → Type 0
 IsSound t p = IsInside t p × IsDataCell t p
 
-has_data : (h : Option ℤ) (i : ℕ) → (if is_none h then Some (OnNodata i) else None) ≡ None →
-    is_some h ≡ true
-has_data None i fault = absurd (cc)
-has_data (Some z) i fault = refl
+module _ (t : Terrain) where
+  none_of_both : (a b : Option SinkFault) → option_or a b ≡ None → (a ≡ None) × (b ≡ None)
+  none_of_both None b h = (refl, h)
+  none_of_both (Some f) b h = absurd (cc)
 
-pub sound : (t : Terrain) (i : ℕ) (p : Place) → sink_fault_of t i p ≡ None → IsSound t p
-sound t i p h = elim (cases_Bool (nat_lt p.row t.rows && nat_lt p.col t.cols)) [
-  | inl is ↦
-      let both = and_parts (nat_lt p.row t.rows) (nat_lt p.col t.cols) is in
-      let rest : (if is_none (height_at t p) then Some (OnNodata i) else None) ≡ None =
-      sym (ap (λ b. if not b then Some (Outside i) else if is_none
-      (height_at t p) then Some (OnNodata i) else None) is) ∙ h in
-      ((ltb-true _ _ both.0, ltb-true _ _ both.1), has_data (height_at t p) i rest)
-  | inr isnt ↦
-      let fault : sink_fault_of t i p ≡ Some (Outside i) =
-      ap (λ b. if not b then Some (Outside i) else if is_none
-      (height_at t p) then Some (OnNodata i) else None) isnt in
-      absurd (cc)
-]
+  abbrev fault : Bool → Option ℤ → ℕ → Option SinkFault
+  fault inside height i = if not inside then Some (Outside i) else if is_none height then Some (OnNodata i) else None
 
-all_sound : (t : Terrain) (i : ℕ) (places : List Place) → first_sink_fault t i places ≡ None →
-    All (IsSound t) places
-all_sound t i [] h k d below = absurd (omega (arith, below))
-all_sound t i (p ∷ rest) h zero d below =
-    sound t i p (none_of_both (sink_fault_of t i p) (first_sink_fault t (i + 1) rest) h).0
-all_sound t i (p ∷ rest) h (suc k) d below =
-    all_sound t (i + 1) rest (none_of_both (sink_fault_of t i p)
-    (first_sink_fault t (i + 1) rest) h).1 k d (omega (arith, below))
+  has_data : (height : Option ℤ) (i : ℕ) → fault true height i ≡ None → is_some height ≡ true
+  has_data None i none = absurd (cc)
+  has_data (Some z) i none = refl
+
+  sound : (i : ℕ) (p : Place) → place_fault Outside OnNodata t i p ≡ None → IsSound t p
+  sound i p none = elim (cases_Bool (nat_lt p.row t.rows && nat_lt p.col t.cols)) [
+    | inl is ↦
+        let both = and_parts (nat_lt p.row t.rows) (nat_lt p.col t.cols) is in
+        let known = has_data (height_at t p) i (sym (ap (λ inside. fault inside (height_at t p) i) is) ∙ none) in
+        ((ltb-true _ _ both.0, ltb-true _ _ both.1), known)
+    | inr isnt ↦
+        let is : fault false (height_at t p) i ≡ None =
+        sym (ap (λ inside. fault inside (height_at t p) i) isnt) ∙ none in
+        absurd (cc)
+  ]
+
+  all_sound : (i : ℕ) (places : List Place) → first_fault (place_fault Outside OnNodata t) i places ≡ None →
+      All (IsSound t) places
+  all_sound i [] none k d below = absurd (omega (arith, below))
+  all_sound i (p ∷ rest) none zero d below = sound i p (none_of_both _ _ none).0
+  all_sound i (p ∷ rest) none (suc k) d below =
+      all_sound (i + 1) rest (none_of_both _ _ none).1 k d (omega (arith, below))
 
 pub few_sinks : (t : Terrain) (sinks : List Place) → sinks_fault t sinks ≡ None →
     nat_lt most_sinks (length sinks) ≡ false

@@ -4,5 +4,6 @@ pub mod Raster
 pub mod Neighbours
 pub mod Ways
 pub mod Parts
+pub mod Faults
 pub mod Sinks
 pub mod StoredCells

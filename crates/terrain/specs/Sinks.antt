@@ -2,11 +2,11 @@
 -- with these sinks in place of its own.
 -- Source: this project.
 -- Trust base.
-use Rattle.std.specs.Prelude.{◌≡◌, ℕ, ◌+◌, not, nat_lt, is_none, if◌then◌else◌, List, [], ◌∷◌, ◌++◌, length, Option, None, Some, Result, Err}
+use Rattle.std.specs.Prelude.{◌≡◌, ℕ, nat_lt, if◌then◌else◌, List, [], ◌∷◌, ◌++◌, length, Option, None, Some, Result, Err}
 use Rattle.std.specs.List.{fold, list_any}
-use Rattle.std.specs.Option.{option_or}
-use Rattle.terrain.specs.Raster.{Terrain, Raster, is_in_grid}
-use Rattle.terrain.specs.Neighbours.{height_at, is_place}
+use Rattle.terrain.specs.Raster.{Terrain, Raster}
+use Rattle.terrain.specs.Neighbours.{is_place}
+use Rattle.terrain.specs.Faults.{first_fault, place_fault}
 use Rattle.terrain.specs.declared.place.Place.{Place}
 use Rattle.terrain.specs.declared.sinks.SinkFault.{SinkFault}
 use Rattle.terrain.specs.declared.sinks.SinkFault.TheVariants.{Outside, OnNodata, TooManySinks, Memory}
@@ -23,24 +23,12 @@ named_once named p = if list_any (is_place p) named then named else named ++ p �
 abbrev pub each_once : List Place → List Place
 each_once places = fold named_once [] places
 
--- The fault of sink p, which is entry `index` of its list; `None` if p is a data cell.
-abbrev pub sink_fault_of : Terrain → ℕ → Place → Option SinkFault
-sink_fault_of t index p =
-    if not (is_in_grid t.cols t.rows p) then Some (Outside index)
-    else if is_none (height_at t p) then Some (OnNodata index)
-    else None
-
--- The fault of the first sink with a fault, if any. The first sink of the list has index `index`.
-abbrev pub first_sink_fault : Terrain → ℕ → List Place → Option SinkFault
-first_sink_fault t index [] = None
-first_sink_fault t index (p ∷ rest) =
-    option_or (sink_fault_of t index p) (first_sink_fault t (index + 1) rest)
-
 -- The fault of a list of sinks, if any: more than `most_sinks` entries, repeats counted; else the
--- fault of the first faulty sink.
+-- fault of the first sink outside the grid or without data.
 abbrev pub sinks_fault : Terrain → List Place → Option SinkFault
 sinks_fault t sinks =
-    if nat_lt most_sinks (length sinks) then Some TooManySinks else first_sink_fault t 0 sinks
+    if nat_lt most_sinks (length sinks) then Some TooManySinks
+    else first_fault (place_fault Outside OnNodata t) 0 sinks
 
 -- The terrain with these sinks in place of its own.
 abbrev pub with_sinks : Terrain → List Place → Terrain

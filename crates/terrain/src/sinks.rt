@@ -1,9 +1,10 @@
 //! Finds the first fault of a list of named sinks, and drops the list's repeats.
 ghost use Rattle.std.specs.Prelude.{◌≡◌, ◌<◌, ◌≤◌, length, IfOk};
 ghost use Rattle.std.specs.List.{list_any};
-ghost use Rattle.terrain.specs.declared.sinks.SinkFault.TheVariants.{Memory};
+ghost use Rattle.terrain.specs.declared.sinks.SinkFault.TheVariants.{Outside, OnNodata, Memory};
 ghost use Rattle.terrain.specs.Neighbours.{is_place};
-ghost use Rattle.terrain.specs.Sinks.{each_once, first_sink_fault, most_sinks, sink_fault_of, sinks_fault};
+ghost use Rattle.terrain.specs.Faults.{first_fault, place_fault};
+ghost use Rattle.terrain.specs.Sinks.{each_once, most_sinks, sinks_fault};
 
 use crate::grid::Grid;
 use crate::place::Place;
@@ -34,7 +35,7 @@ impl From<AllocError> for SinkFault {
 }
 
 fn sink_fault_at(grid: &Grid, sink: Place, index: u32) -> Option<SinkFault>
-    ensures { result ≡ sink_fault_of grid.now.terrain index sink }
+    ensures { result ≡ place_fault Outside OnNodata grid.now.terrain index sink }
 {
     if sink.row >= grid.rows() || sink.col >= grid.cols() {
         return Some(SinkFault::Outside(index));
@@ -47,7 +48,7 @@ fn sink_fault_at(grid: &Grid, sink: Place, index: u32) -> Option<SinkFault>
 
 fn first_bad_sink(grid: &Grid, sinks: &[Place]) -> Option<SinkFault>
     requires { length sinks.now ≤ most_sinks }
-    ensures { result ≡ first_sink_fault grid.now.terrain 0 sinks.now }
+    ensures { result ≡ first_fault (place_fault Outside OnNodata grid.now.terrain) 0 sinks.now }
 {
     for (index, sink) in sinks.iter().enumerate() {
         let fault = sink_fault_at(grid, *sink, index as u32);

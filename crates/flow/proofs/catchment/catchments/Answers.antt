@@ -5,10 +5,14 @@ use Rattle.terrain.specs.declared.place.Place.{Place}
 use Rattle.flow.specs.CutCodes.{gauge_numbers}
 use Rattle.flow.specs.Whole.{directed_on}
 use Rattle.flow.proofs.CutPaths.{cut_ends, catchments_are, position_below, or_zero}
-use Rattle.flow.proofs.GaugeFaults.{all_sound, few_gauges, have_codes_in}
+use Rattle.flow.proofs.GaugeFaults.{all_sound, few_gauges, have_codes_in, refuses}
 use Rattle.flow.proofs.Reaching.{ending_of}
 use Rattle.flow.proofs.Together.{directed_same, grid_flow}
 use Rattle.flow.proofs.catchment.catchments.Goals as goal
+
+pub returns-in-Some-clause-refusals : goal.returns-in-Some-clause-refusals
+returns-in-Some-clause-refusals g c =
+    refuses c.args.d.now.terrain c.args.gauges.now c.in-Some.fault c.args.workers (cc)
 
 pub cut_codes-requires-clause-size : goal.cut_codes-requires-clause-size
 cut_codes-requires-clause-size g c = (grid_flow c.args.tiling.now c.codes.ensures.draining c.requires

@@ -1,7 +1,6 @@
 use Rattle.std.proofs.Common.{◌<◌, None, Some, sym, ap, ◌∙◌, arith}
-use Rattle.std.specs.Prelude.{if◌then◌else◌, option_map}
-use Rattle.terrain.specs.declared.sinks.SinkFault.TheVariants.{OnNodata}
-use Rattle.flow.specs.Catchments.{fault_of_gauge}
+use Rattle.std.specs.Prelude.{if◌then◌else◌}
+use Rattle.flow.specs.declared.gauges.GaugeFault.TheVariants.{OnNodata}
 use Rattle.flow.proofs.GaugeFaults.{fault_inside, none_of_code}
 use Rattle.flow.proofs.gauges.gauge_fault_at.Goals as goal
 
@@ -11,9 +10,9 @@ returns-then-is_none c =
     let p = c.args.gauge in
     let row : p.row < d.terrain.rows = omega arith in
     let col : p.col < d.terrain.cols = omega arith in
-    sym (ap (option_map fault_of_gauge) (fault_inside d.terrain _ p row col ∙
-    ap (λ b. if b then Some (OnNodata c.args.index) else None) (none_of_code c.code.ensures.draining p _
-    c.code.ensures.value c.is_none.ensures ∙ c.if-is_none.true)))
+    sym (fault_inside d.terrain _ p row col
+    ∙ ap (λ b. if b then Some (OnNodata c.args.index) else None) (none_of_code c.code.ensures.draining p _
+    c.code.ensures.value c.is_none.ensures ∙ c.if-is_none.true))
 
 pub returns : goal.returns
 returns c =
@@ -21,6 +20,6 @@ returns c =
     let p = c.args.gauge in
     let row : p.row < d.terrain.rows = omega arith in
     let col : p.col < d.terrain.cols = omega arith in
-    sym (ap (option_map fault_of_gauge) (fault_inside d.terrain _ p row col ∙
-    ap (λ b. if b then Some (OnNodata c.args.index) else None) (none_of_code c.code.ensures.draining p _
-    c.code.ensures.value c.is_none.ensures ∙ c.if-is_none.false)))
+    sym (fault_inside d.terrain _ p row col
+    ∙ ap (λ b. if b then Some (OnNodata c.args.index) else None) (none_of_code c.code.ensures.draining p _
+    c.code.ensures.value c.is_none.ensures ∙ c.if-is_none.false))
